@@ -1,0 +1,12 @@
+pub mod Terms
+pub mod Limits
+pub mod Typing
+pub mod Layout
+pub mod Reader
+pub mod Ends
+pub mod FirstFault
+pub mod Run
+pub mod Operations
+pub mod Machine
+pub mod RawMachine
+pub mod Answer

@@ -1,0 +1,7 @@
+pub mod Readers
+pub mod Numbers
+pub mod Header
+pub mod Complete
+pub mod Sound
+pub mod Numbered
+pub mod Exact
