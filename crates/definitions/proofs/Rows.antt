@@ -3,8 +3,10 @@ use Prim.Native.Nat.{ℕ, zero, suc, _+_}
 use mathlib.Core.Path.{_≡_, refl}
 use mathlib.Core.List.{List, [], _∷_, _++_, map}
 use lib.ListN.{length, set, replicate, take}
-use Rattle.definitions.specs.Reader.{Fault, fault}
+use Rattle.definitions.specs.Reader.{Fault, fault, after, need, the, byte, item, end}
 use Rattle.definitions.specs.FirstFault.{firstFault}
+use Rattle.definitions.specs.Run.{run}
+use Rattle.definitions.specs.RawMachine.{block, header}
 use Rattle.definitions.specs.Answer.{Answer, answer, refusal, printed}
 
 abbrev pub A : List ℕ
@@ -52,9 +54,9 @@ rows =
     ∷ []
 
 pub rows-hold : map computed rows ≡ rows
-unfolding answer
+unfolding after need the byte item end firstFault header block run answer
 rows-hold = refl
 
 pub A-printed : printed A ≡ 0x30 ∷ 0x20 ∷ 0x32 ∷ 0x33 ∷ 0x0A ∷ 0x34 ∷ 0x30 ∷ 0x20 ∷ 0x32 ∷ 0x20 ∷ 0x30 ∷ 0x20 ∷ 0x37 ∷ 0x0A ∷ []
-unfolding printed
+unfolding after need the byte item end firstFault header block run answer printed
 A-printed = refl

@@ -267,5 +267,4 @@ verdict (got a at xs) = fault 0 at
 verdict (refused e) = e
 
 unfoldable pub firstFault : List ℕ → Fault
-unfolding after need the byte item end
 firstFault image = verdict (readImage image)

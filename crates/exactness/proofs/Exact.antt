@@ -119,6 +119,14 @@ read-accepted image p e r b q =
 
 -- ---- the first fault
 
+pub number-below : (image : List ℕ) → firstFault image .number ≤ 11
+unfolding firstFault
+number-below image = go (readImage image) refl
+  where
+    go : (x : Read Program) → readImage image ≡ x → verdict x .number ≤ 11
+    go (got p e r) h = omega arith
+    go (refused x) h = image-numbered image x h .1
+
 pub accepted-faultless : {image : List ℕ} → Accepted image → firstFault image ≡ fault 0 (length image)
 unfolding firstFault
 accepted-faultless a = rw (accepted-read a)
@@ -133,5 +141,13 @@ faultless-accepted image b q = go (readImage image) refl q
 
 -- ---- one reading
 
-pub one-reading : {image : List ℕ} (a a′ : Accepted image) → a .program ≡ a′ .program
-one-reading a a′ = let h : got (a .program) _ [] ≡ got (a′ .program) _ [] = sym (accepted-read a) ∙ accepted-read a′ in cc
+same-content : (p q : Program) → layout p ≡ layout q → content p ≡ content q
+unfolding layout region
+same-content p q e = cc
+
+pub one-reading : (p q : Program) → TypedProgram p → TypedProgram q → layout p ≡ layout q → p ≡ q
+one-reading p q t u e =
+    let c : content p ≡ content q = same-content p q e in
+    let h : program (length (content p)) 0 (content p) ≡ got p (0 + length (content p)) [] = program-complete p t (length (content p)) 0 (omega arith) in
+    let k : program (length (content q)) 0 (content q) ≡ got q (0 + length (content q)) [] = program-complete q u (length (content q)) 0 (omega arith) in
+    cc

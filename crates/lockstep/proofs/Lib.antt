@@ -1,0 +1,5 @@
+pub mod Runs
+pub mod Together
+pub mod Steps
+pub mod Whole
+pub mod Answers
