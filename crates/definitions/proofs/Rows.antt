@@ -1,13 +1,15 @@
--- Every P row of document 01's table "Images on either side of a line", and every other row and "Also run" line that computes, from the definitions.
+-- Document 01's examples, computed from the definitions. Assumes nothing.
 use Prim.Native.Nat.{ℕ, zero, suc, _+_}
 use mathlib.Core.Path.{_≡_, refl}
 use mathlib.Core.List.{List, [], _∷_, _++_, map}
 use lib.ListN.{length, set, replicate, take}
 use Rattle.definitions.specs.Reader.{Fault, fault, after, need, the, byte, item, end}
 use Rattle.definitions.specs.FirstFault.{firstFault}
-use Rattle.definitions.specs.Run.{run}
+use Rattle.definitions.specs.Terms.{Ty, ext, Signature, Statement, extern, ifz, exit, let′, new, invoke, none, clause}
+use Rattle.definitions.specs.Layout.{layout}
+use Rattle.definitions.specs.Run.{run, exited}
 use Rattle.definitions.specs.RawMachine.{block, header}
-use Rattle.definitions.specs.Answer.{Answer, answer, refusal, printed}
+use Rattle.definitions.specs.Answer.{Answer, answer, refusal, runTrees, printed}
 
 abbrev pub A : List ℕ
 A = 0x01 ∷ 0x00 ∷ 0x14 ∷ 0x00 ∷ 0x01 ∷ 0x00 ∷ 0x00 ∷ 0x0F ∷ 0x02 ∷ 0x00 ∷ 0x00 ∷ 0x00 ∷ 0x00 ∷ 0x00 ∷ 0x00 ∷ 0x00 ∷ 0x00 ∷ 0x07 ∷ 0x00 ∷ 0x03 ∷ 0x02 ∷ 0x06 ∷ 0x00 ∷ []
@@ -18,7 +20,7 @@ B = 0x01 ∷ 0x00 ∷ 0x20 ∷ 0x01 ∷ 0x02 ∷ 0x00 ∷ 0x01 ∷ 0x02 ∷ 0x00
 abbrev pub C : List ℕ
 C = 0x01 ∷ 0x00 ∷ 0x19 ∷ 0x01 ∷ 0x01 ∷ 0x01 ∷ 0x02 ∷ 0x00 ∷ 0x01 ∷ 0x02 ∷ 0x02 ∷ 0x00 ∷ 0x02 ∷ 0x00 ∷ 0x00 ∷ 0x0C ∷ 0x04 ∷ 0x00 ∷ 0x01 ∷ 0x01 ∷ 0x00 ∷ 0x00 ∷ 0x03 ∷ 0x02 ∷ 0x06 ∷ 0x01 ∷ 0x06 ∷ 0x00 ∷ []
 
--- A row of the table: an image, what it is run with, and the answer that the document states.
+-- A row: an image, what it is run with, and the answer that is stated.
 pub data Row : Type 0 where
   checks : List ℕ → Fault → Row
   runs : List ℕ → List ℕ → ℕ → List ℕ → Answer → Row
@@ -30,6 +32,8 @@ computed (runs image args fuel table stated) = runs image args fuel table (answe
 
 abbrev says : ℕ → ℕ → ℕ → ℕ → List ℕ → Answer
 says n s w v t = record { number = n; steps = s; words = w; value = v; table = t }
+
+-- ---- document 01, "Images on either side of a line": every row marked P, and the others
 
 abbrev pub rows : List Row
 rows =
@@ -45,18 +49,73 @@ rows =
     ∷ checks (set A 2 0x15 ++ (0 ∷ [])) (fault 11 23)
     ∷ runs A [] 2 [] (says 40 2 0 7 [])
     ∷ runs A [] 1 [] (says 41 1 0 0 [])
+    ∷ checks B (fault 0 35)
     ∷ runs B (5 ∷ 9 ∷ []) 3 (1 ∷ 1 ∷ []) (says 40 3 2 9 (0 ∷ 9 ∷ []))
     ∷ runs B (5 ∷ 9 ∷ []) 3 (1 ∷ []) (says 42 0 0 0 (1 ∷ []))
     ∷ checks (set B 23 1) (fault 9 23)
     ∷ checks (set B 22 1) (fault 9 22)
     ∷ checks (set B 19 0) (fault 0 35)
+    ∷ runs (set B 19 0) (5 ∷ 9 ∷ []) 3 (1 ∷ 1 ∷ []) (says 40 3 0 5 (1 ∷ 1 ∷ []))
+    ∷ checks C (fault 0 28)
     ∷ runs C (5 ∷ 9 ∷ []) 3 (1 ∷ 1 ∷ []) (says 40 3 2 9 (0 ∷ 9 ∷ []))
+    ∷ checks (set C 18 2) (fault 8 26)
+    ∷ runs B (5 ∷ []) 3 (1 ∷ 1 ∷ []) (refusal 20 (1 ∷ 1 ∷ []))
     ∷ []
 
 pub rows-hold : map computed rows ≡ rows
 unfolding after need the byte item end firstFault header block run answer
 rows-hold = refl
 
+-- "The program writes exactly: 0 23, 40 2 0 7".
 pub A-printed : printed A ≡ 0x30 ∷ 0x20 ∷ 0x32 ∷ 0x33 ∷ 0x0A ∷ 0x34 ∷ 0x30 ∷ 0x20 ∷ 0x32 ∷ 0x20 ∷ 0x30 ∷ 0x20 ∷ 0x37 ∷ 0x0A ∷ []
 unfolding after need the byte item end firstFault header block run answer printed
 A-printed = refl
+
+-- ---- "Also run: width 32 and 33, depth 48 and 49, fuel 0, a table of 8,000 words and of 8,001", and what students hand in
+
+abbrev exits : Statement
+exits = extern exit (0 ∷ []) none
+
+abbrev single : List Signature → List Ty → Statement → List ℕ
+single Σ Γ s = layout (record { signatures = Σ; labels = Γ ∷ []; bodies = s ∷ [] })
+
+-- ifz in ifz, so many clauses deep
+abbrev nested : ℕ → Statement
+nested zero = exits
+nested (suc n) = extern ifz (0 ∷ []) (clause 0 (nested n) (clause 1 exits none))
+
+-- so many lets of a symbol without parameters
+abbrev widened : ℕ → Statement
+widened zero = exits
+widened (suc n) = let′ 0 0 (widened n)
+
+-- an integer and a value of signature 1, which is captured: a clause starts with its parameter
+abbrev captured : List ℕ
+captured = single (((ext ∷ []) ∷ []) ∷ ([] ∷ []) ∷ []) (ext ∷ []) (let′ 1 0 (new 0 1 (clause 0 exits none) (invoke 0)))
+
+-- the integer that the second let needs is not the last entry
+abbrev unordered : List ℕ
+unordered = single (([] ∷ (ext ∷ []) ∷ []) ∷ []) (ext ∷ []) (let′ 0 0 (let′ 0 1 exits))
+
+abbrev pub further : List Row
+further =
+    checks (single [] (ext ∷ []) (nested 48)) (fault 0 493)
+    ∷ checks (single [] (ext ∷ []) (nested 49)) (fault 10 253)
+    ∷ checks (single (([] ∷ []) ∷ []) (ext ∷ []) (widened 31)) (fault 0 108)
+    ∷ checks (single (([] ∷ []) ∷ []) (ext ∷ []) (widened 32)) (fault 5 105)
+    ∷ runs A [] 0 [] (says 41 0 0 0 [])
+    ∷ runs A [] 100000 (replicate 8000 3) (says 40 2 0 7 (replicate 8000 3))
+    ∷ runs A [] 100000 (replicate 8001 3) (refusal 21 (replicate 8001 3))
+    ∷ checks captured (fault 0 31)
+    ∷ runs captured (6 ∷ []) 9 (1 ∷ 1 ∷ 1 ∷ []) (says 40 4 2 6 (0 ∷ 0 ∷ 1 ∷ []))
+    ∷ checks unordered (fault 8 18)
+    ∷ []
+
+pub further-hold : map computed further ≡ further
+unfolding after need the byte item end firstFault header block run answer layout
+further-hold = refl
+
+-- "Taking a clause by its place and never reading its symbol byte": B with the symbols of its clauses exchanged is refused, and the machine still goes by the symbols.
+pub by-symbol : runTrees (set (set B 23 1) 29 0) (5 ∷ 9 ∷ []) 3 2 .how ≡ exited 5
+unfolding after need the byte item end header block run
+by-symbol = refl
