@@ -1,0 +1,88 @@
+//! What several test files need: the images of document 01, and short ways to write others.
+
+#![allow(dead_code)] // each test file is a program of its own and uses only some of this
+
+use second::assemble::assemble;
+use second::terms::{Label, Program, Signature, Statement, Type};
+use second::{check, Answer, Verdict};
+
+/// Image A of document 01.
+pub const A: [u8; 23] = [
+    0x01, 0x00, 0x14, 0x00, 0x01, 0x00, 0x00, 0x0F, 0x02, 0x00, 0x00, 0x00, 0x00, 0x00, 0x00, 0x00,
+    0x00, 0x07, 0x00, 0x03, 0x02, 0x06, 0x00,
+];
+
+/// Image B of document 01.
+pub const B: [u8; 35] = [
+    0x01, 0x00, 0x20, 0x01, 0x02, 0x00, 0x01, 0x02, 0x00, 0x01, 0x02, 0x02, 0x00, 0x02, 0x00, 0x00,
+    0x12, 0x03, 0x00, 0x01, 0x05, 0x00, 0x02, 0x00, 0x00, 0x03, 0x02, 0x06, 0x00, 0x01, 0x00, 0x03,
+    0x02, 0x06, 0x01,
+];
+
+/// Image C of document 01.
+pub const C: [u8; 28] = [
+    0x01, 0x00, 0x19, 0x01, 0x01, 0x01, 0x02, 0x00, 0x01, 0x02, 0x02, 0x00, 0x02, 0x00, 0x00, 0x0C,
+    0x04, 0x00, 0x01, 0x01, 0x00, 0x00, 0x03, 0x02, 0x06, 0x01, 0x06, 0x00,
+];
+
+/// The image with these bytes, from `offset` on, instead of its own.
+pub fn with_bytes(image: &[u8], offset: usize, bytes: &[u8]) -> Vec<u8> {
+    let mut changed = image.to_vec();
+    changed[offset..offset + bytes.len()].copy_from_slice(bytes);
+    changed
+}
+
+/// Number and offset of the check's verdict.
+pub fn verdict(image: &[u8]) -> (u8, u32) {
+    let Verdict { number, offset } = check(image);
+    (number, offset)
+}
+
+/// The verdict that accepts the image.
+pub fn accepted(image: &[u8]) -> (u8, u32) {
+    (0, image.len() as u32)
+}
+
+/// An answer.
+pub fn answer(number: u8, steps: u32, words: u32, value: u64) -> Answer {
+    Answer { number, steps, words, value }
+}
+
+/// The answer of a refused run.
+pub fn refused(number: u8) -> Answer {
+    answer(number, 0, 0, 0)
+}
+
+/// An image: version, length, this head, and bodies of the right length.
+pub fn image(head: &[u8], bodies: &[&[u8]]) -> Vec<u8> {
+    let mut image = vec![1, 0, 0];
+    image.extend(head);
+    for body in bodies {
+        image.extend((body.len() as u16).to_be_bytes());
+        image.extend(*body);
+    }
+    second::damage::with_length(image)
+}
+
+/// Offset of the first byte of the first body under this head.
+pub fn body_at(head: &[u8]) -> usize {
+    3 + head.len() + 2
+}
+
+/// The image of a program written as terms.
+pub fn image_of(signatures: &[Vec<Vec<Type>>], labels: &[(Vec<Type>, Statement)]) -> Vec<u8> {
+    let signatures = signatures.iter().map(|symbols| Signature { symbols: symbols.clone() });
+    let labels = labels.iter().cloned().map(|(parameters, body)| Label { parameters, body });
+    let program = Program { signatures: signatures.collect(), labels: labels.collect() };
+    assemble(&program).expect("a small program has bytes")
+}
+
+/// `extern ifz 0` around a statement, so many times.
+pub fn nested(times: usize, inside: Statement) -> Statement {
+    (0..times).fold(inside, |inside, _| Statement::ifz(0, Statement::exit(0), inside))
+}
+
+/// A table of this many words, no two alike and none of them likely in a run.
+pub fn pattern(words: usize) -> Vec<u64> {
+    (0..words as u64).map(|word| 0xA5A5_5A5A_0000_0000 | word).collect()
+}
