@@ -1,7 +1,8 @@
 //! Prints rows for the definitions, with this crate's answers, as antt: `cargo run --release --example rows -- SEED COUNT`.
 //!
 //! The rows go into a scratch crate above `definitions`, where `map computed rows ≡ rows` by `refl`
-//! compares the definitions themselves with this crate. docs/DECISIONS.md says what was compared.
+//! compares the definitions themselves with this crate. Seed 0 begins with the hand-made images.
+//! docs/DECISIONS.md says what was compared.
 
 use second::assemble::assemble;
 use second::damage;
@@ -46,7 +47,11 @@ fn main() {
     let mut words = std::env::args().skip(1).map(|word| word.parse::<u64>().expect("a number"));
     let (seed, count) = (words.next().unwrap_or(1), words.next().unwrap_or(100));
     let profiles = Profile::ALL;
-    let mut rows = Vec::new();
+    let mut rows: Vec<String> = Vec::new();
+    if seed == 0 {
+        let short = damage::hand_made().into_iter().filter(|made| made.image.len() <= MOST_BYTES);
+        rows.extend(short.map(|made| checks(&made.image)));
+    }
     let mut random = Random::new(seed);
     for i in 0..count {
         let program =
