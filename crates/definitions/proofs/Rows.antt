@@ -1,11 +1,11 @@
 -- Document 01's examples, computed from the definitions. Assumes nothing.
-use Prim.Native.Nat.{ℕ, zero, suc, _+_}
+use Prim.Native.Nat.{ℕ, zero, suc}
 use mathlib.Core.Path.{_≡_, refl}
 use mathlib.Core.List.{List, [], _∷_, _++_, map}
-use lib.ListN.{length, set, replicate, take}
+use lib.ListN.{set, replicate}
 use Rattle.definitions.specs.Reader.{Fault, fault, after, need, the, byte, item, end}
 use Rattle.definitions.specs.FirstFault.{firstFault}
-use Rattle.definitions.specs.Terms.{Ty, ext, Signature, Statement, extern, ifz, exit, let′, new, invoke, none, clause}
+use Rattle.definitions.specs.Terms.{Ty, prd, cns, ext, Signature, Operation, lit, add, sub, mul, ifz, less, exit, Statement, substitute, extern, let′, new, invoke, none, clause}
 use Rattle.definitions.specs.Layout.{layout}
 use Rattle.definitions.specs.Run.{run, exited}
 use Rattle.definitions.specs.RawMachine.{block, header}
@@ -97,6 +97,25 @@ captured = single (((ext ∷ []) ∷ []) ∷ ([] ∷ []) ∷ []) (ext ∷ []) (l
 abbrev unordered : List ℕ
 unordered = single (([] ∷ (ext ∷ []) ∷ []) ∷ []) (ext ∷ []) (let′ 0 0 (let′ 0 1 exits))
 
+-- an operation on two arguments, exit with what it gains; a comparison, exit with the first argument or with the second
+abbrev operates : Operation → List ℕ
+operates op = single [] (ext ∷ ext ∷ []) (extern op (0 ∷ 1 ∷ []) (clause 0 (extern exit (2 ∷ []) none) none))
+
+abbrev compares : Operation → List ℕ → List ℕ
+compares op ps = single [] (ext ∷ ext ∷ []) (extern op ps (clause 0 exits (clause 1 (extern exit (1 ∷ []) none) none)))
+
+-- every kind of word: a block of two integers, twice; a consumer that captures the second; a block of the first and of the consumer
+abbrev worded : List ℕ
+worded =
+    single
+    (([] ∷ (ext ∷ ext ∷ []) ∷ []) ∷ ((ext ∷ []) ∷ []) ∷ ((prd 0 ∷ cns 1 ∷ []) ∷ []) ∷ [])
+    (ext ∷ ext ∷ ext ∷ ext ∷ [])
+    (let′ 0 1 (substitute (2 ∷ 0 ∷ 1 ∷ []) (let′ 0 1 (new 1 1 (clause 0 exits none) (let′ 2 0 (extern (lit 7) [] (clause 0 (extern exit (1 ∷ []) none) none)))))))
+
+-- an entry more than the symbol of invoke has parameters
+abbrev spare : List ℕ
+spare = single (((ext ∷ []) ∷ []) ∷ []) (ext ∷ ext ∷ ext ∷ []) (new 0 1 (clause 0 exits none) (invoke 0))
+
 abbrev pub further : List Row
 further =
     checks (single [] (ext ∷ []) (nested 48)) (fault 0 493)
@@ -109,6 +128,20 @@ further =
     ∷ checks captured (fault 0 31)
     ∷ runs captured (6 ∷ []) 9 (1 ∷ 1 ∷ 1 ∷ []) (says 40 4 2 6 (0 ∷ 0 ∷ 1 ∷ []))
     ∷ checks unordered (fault 8 18)
+    ∷ checks (set B 34 2) (fault 7 34)
+    ∷ runs (operates add) (0xFFFFFFFFFFFFFFFF ∷ 5 ∷ []) 9 [] (says 40 2 0 4 [])
+    ∷ runs (operates sub) (3 ∷ 5 ∷ []) 9 [] (says 40 2 0 0xFFFFFFFFFFFFFFFE [])
+    ∷ runs (operates mul) (0x8000000000000001 ∷ 6 ∷ []) 9 [] (says 40 2 0 6 [])
+    ∷ runs (compares ifz (0 ∷ [])) (0 ∷ 7 ∷ []) 9 [] (says 40 2 0 0 [])
+    ∷ runs (compares ifz (0 ∷ [])) (4 ∷ 7 ∷ []) 9 [] (says 40 2 0 7 [])
+    ∷ runs (compares less (0 ∷ 1 ∷ [])) (3 ∷ 5 ∷ []) 9 [] (says 40 2 0 3 [])
+    ∷ runs (compares less (0 ∷ 1 ∷ [])) (5 ∷ 5 ∷ []) 9 [] (says 40 2 0 5 [])
+    ∷ runs (compares less (0 ∷ 1 ∷ [])) (0xFFFFFFFFFFFFFFFF ∷ 5 ∷ []) 9 [] (says 40 2 0 5 [])
+    ∷ checks worded (fault 0 72)
+    ∷ runs worded (1 ∷ 2 ∷ 3 ∷ 4 ∷ []) 9 (replicate 14 1) (says 40 7 14 7 (0 ∷ 3 ∷ 0 ∷ 4 ∷ 0 ∷ 1 ∷ 0 ∷ 2 ∷ 4 ∷ 1 ∷ 0 ∷ 1 ∷ 8 ∷ 44 ∷ []))
+    ∷ runs worded (1 ∷ 2 ∷ 3 ∷ 4 ∷ []) 9 (replicate 13 1) (says 42 4 10 0 (0 ∷ 3 ∷ 0 ∷ 4 ∷ 0 ∷ 1 ∷ 0 ∷ 2 ∷ 4 ∷ 1 ∷ 1 ∷ 1 ∷ 1 ∷ []))
+    ∷ checks spare (fault 8 28)
+    ∷ runs B (5 ∷ []) 3 (replicate 8001 3) (refusal 20 (replicate 8001 3))
     ∷ []
 
 pub further-hold : map computed further ≡ further

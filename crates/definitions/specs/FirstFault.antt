@@ -11,7 +11,7 @@ use Rattle.definitions.specs.Terms.{Statement, jump, substitute, extern,
 use Rattle.definitions.specs.Typing.{arguments, gains}
 use Rattle.definitions.specs.Layout.{kindByte, numberByte, Head, named, bare}
 use Rattle.definitions.specs.Ends.{front, back, last}
-use Rattle.definitions.specs.Reader.{Fault, fault, Read, got, refused, Reader, after, _>>=_, _>>_, give, here, need, the, byte, item, end, inRegion, times, count, counted, known, expected}
+use Rattle.definitions.specs.Reader.{Fault, fault, Read, got, refused, Reader, _>>=_, _>>_, give, here, need, the, byte, item, end, inRegion, times, count, counted, known, expected}
 
 -- ---- tests
 
@@ -109,14 +109,14 @@ module _ (Σ : List Signature) (Θ : List Environment) where
   module _ (statement : ℕ → Environment → Reader Statement) where
     -- "clause: symbol byte (3, 9); 5 and 10, both at the clause's first byte ..; length"
     abbrev pub clauses : Head → ℕ → Environment → Environment → ℕ → Signature → Reader Clauses
-    clauses h d before after i [] = give noClauses
-    clauses h d before after i (ps ∷ S) = do
+    clauses h d before behind i [] = give noClauses
+    clauses h d before behind i (ps ∷ S) = do
       o ← here
       head h i
-      need (fits (before ++ ps ++ after)) 5 o
+      need (fits (before ++ ps ++ behind)) 5 o
       need (ltb d deepest) 10 o
-      s ← inRegion (statement (suc d) (before ++ ps ++ after))
-      cs ← clauses h d before after (suc i) S
+      s ← inRegion (statement (suc d) (before ++ ps ++ behind))
+      cs ← clauses h d before behind (suc i) S
       give (clause i s cs)
 
     -- "jump: label, then 8 at the code"
@@ -174,7 +174,7 @@ module _ (Σ : List Signature) (Θ : List Environment) where
       cs ← clauses named d (front Δ 1) [] 0 (t .1)
       give (switch (t .0) cs)
 
-    -- "invoke: 8 at the code if the last entry is absent or not cns; symbol; 8 at the code for the rest"
+    -- "invoke: 8 at the code if the last entry is absent or not cns; symbol; 8 at the code for the rest". The signature of an entry is always known.
     abbrev pub anInvoke : Form
     anInvoke o d Δ = do
       v ← the (last Δ) 8 o
@@ -195,7 +195,7 @@ module _ (Σ : List Signature) (Θ : List Environment) where
       form ← the (getElem? forms c) 6 o
       form o d Δ
 
-  -- A statement of at most k bytes: with none, its code passes the end of its region.
+  -- A statement in which at most k statements stand one in or behind another, as in k bytes: with none, its code passes the end of its region.
   abbrev pub statement : ℕ → ℕ → Environment → Reader Statement
   statement zero d Δ = λ at xs. refused (fault 3 at)
   statement (suc k) d Δ = aStatement (statement k) d Δ
@@ -248,7 +248,7 @@ program k = do
   end
   give (record { signatures = Σ; labels = Θ; bodies = ss })
 
--- "Order at the start: size, version, length field." The version apart from what it announces.
+-- "Order at the start: size, version, length field." What follows them is read by `content`.
 abbrev pub envelope : {A : Type 0} → ℕ → ℕ → Reader A → Reader A
 envelope v size content = do
   need (leb 3 size && leb size largestImage) 1 0

@@ -170,7 +170,7 @@ module _ (Σ : List Signature) (Θ : List Environment) where
     pub clauses-complete : {d i : ℕ} {before behind : Environment} {S : Signature} {cs : Clauses} → TypedClauses Σ Θ d before behind i S cs → (h : Head) (k at : ℕ) (rest : List ℕ) → length (clausesBytes h cs) ≤ k
         → clauses Σ Θ (statement Σ Θ k) h d before behind i S at (clausesBytes h cs ++ rest) ≡ got cs (at + length (clausesBytes h cs)) rest
     clauses-complete NONE h k at rest l = same-place (omega arith)
-    clauses-complete (CLAUSE {d = d} {i = i} {before = before} {after = behind} {ps = ps} {s = s} {cs = cs} f g t ts) h k at rest l =
+    clauses-complete (CLAUSE {d = d} {i = i} {before = before} {behind = behind} {ps = ps} {s = s} {cs = cs} f g t ts) h k at rest l =
         let xs : List ℕ = statementBytes s in
         let n : length (headBytes h i ++ (region xs ++ clausesBytes h cs)) ≡ length (headBytes h i) + (length (region xs) + length (clausesBytes h cs)) = rw (length-append, length-append xs (clausesBytes h cs)) (omega arith) in
         rw (

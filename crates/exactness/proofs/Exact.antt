@@ -119,13 +119,14 @@ read-accepted image p e r b q =
 
 -- ---- the first fault
 
-pub number-below : (image : List ℕ) → firstFault image .number ≤ 11
+-- where nothing is accepted the number is one of the table's
+pub number-refused : (image : List ℕ) → Bytes image → (Accepted image → ⊥) → (1 ≤ firstFault image .number) × (firstFault image .number ≤ 11)
 unfolding firstFault
-number-below image = go (readImage image) refl
+number-refused image b no′ = go (readImage image) refl
   where
-    go : (x : Read Program) → readImage image ≡ x → verdict x .number ≤ 11
-    go (got p e r) h = omega arith
-    go (refused x) h = image-numbered image x h .1
+    go : (x : Read Program) → readImage image ≡ x → (1 ≤ verdict x .number) × (verdict x .number ≤ 11)
+    go (got p e r) h = absurd (no′ (read-accepted image p e r b h))
+    go (refused x) h = image-numbered image x h
 
 pub accepted-faultless : {image : List ℕ} → Accepted image → firstFault image ≡ fault 0 (length image)
 unfolding firstFault

@@ -1,7 +1,7 @@
 -- What is proved of the definitions, for a reader to hold against the three demands: each theorem is one citation. Assumes nothing.
 use Prim.Native.Nat.{ℕ, _≤_, _<_}
 use mathlib.Core.Path.{_≡_}
-use mathlib.Core.Logic.{_↔_, _≢_, _⊎_}
+use mathlib.Core.Logic.{_↔_, _≢_}
 use mathlib.Core.List.{List, [], map}
 use lib.ListN.{length, getD}
 use Rattle.definitions.specs.Limits.{largestTable}
@@ -11,11 +11,13 @@ use Rattle.definitions.specs.Layout.{Bytes, layout, Accepted}
 use Rattle.definitions.specs.Reader.{fault}
 use Rattle.definitions.specs.FirstFault.{firstFault}
 use Rattle.definitions.specs.Run.{stuck, Outcome, Reached, Ends}
+use Rattle.definitions.specs.Machine as Machine
 use Rattle.definitions.specs.Machine.{runTerms}
 use Rattle.definitions.specs.RawMachine.{Configuration, step}
-use Rattle.definitions.specs.Answer.{Answer, start, runTrees, answer, answerOf, refusal}
+use Rattle.definitions.specs.Answer.{start, runTrees, answer, answerOf, refusal}
 use Rattle.definitions.proofs.Rows as Table
 use Rattle.exactness.proofs.Exact as Exact
+use Rattle.lockstep.proofs.Together.{Together}
 use Rattle.lockstep.proofs.Whole as Whole
 use Rattle.lockstep.proofs.Answers as Answers
 
@@ -23,32 +25,59 @@ use Rattle.lockstep.proofs.Answers as Answers
 rows : map Table.computed Table.rows ≡ Table.rows
 rows = Table.rows-hold
 
--- Demand 2: an image is accepted exactly when its first fault is 0 at its length.
+-- Demand 2: an image is accepted exactly when its first fault is 0 at its length,
 demand-2-accepted : (image : List ℕ) → Bytes image → Accepted image ↔ (firstFault image ≡ fault 0 (length image))
 demand-2-accepted image b = (Exact.accepted-faultless, λ e. Exact.faultless-accepted image b (rw e))
+
+-- and exactly when its number is 0; else the number is one of the refusal table's.
+demand-2-number : (image : List ℕ) → Bytes image → firstFault image .number ≡ 0 → Accepted image
+demand-2-number = Exact.faultless-accepted
+
+demand-1-number : (image : List ℕ) → Bytes image → (Accepted image → ⊥) → (1 ≤ firstFault image .number) × (firstFault image .number ≤ 11)
+demand-1-number = Exact.number-refused
 
 -- One reading: so "the program of an accepted image" makes sense.
 one-reading : (p q : Program) → TypedProgram p → TypedProgram q → layout p ≡ layout q → p ≡ q
 one-reading = Exact.one-reading
 
+-- Demand 1: a run of a refused image gets the check's number, and the table is not touched.
+demand-1-image : (image args : List ℕ) (fuel : ℕ) (table : List ℕ) → Bytes image → (Accepted image → ⊥) → answer image args fuel table ≡ refusal (firstFault image .number) table
+demand-1-image = Answers.image-refused
+
 -- Demand 3, "as many arguments as label 0 names".
-abbrev Arguments : {image : List ℕ} → Accepted image → List ℕ → Type 0
-Arguments a args = length args ≡ length (getD (a .program .labels) 0 [])
+abbrev Fitting : {image : List ℕ} → Accepted image → List ℕ → Type 0
+Fitting a args = length args ≡ length (getD (a .program .labels) 0 [])
+
+-- Demand 1: then 20, and the table is not touched.
+demand-1-arguments : {image : List ℕ} (a : Accepted image) (args : List ℕ) (fuel : ℕ) (table : List ℕ) → (Fitting a args → ⊥) → answer image args fuel table ≡ refusal 20 table
+demand-1-arguments a args fuel table l = Answers.arguments-refused a args fuel table (Whole.not-fitting a args l)
 
 -- how many words a configuration has stored
 abbrev words : Configuration → ℕ
 words c = length (c .stored)
 
-module _ {image : List ℕ} (a : Accepted image) (args : List ℕ) (l : Arguments a args) where
-  -- Demand 2: the ending with its value, the steps, and how many words are stored, are those of the paper's abstract machine on the image's program.
+module _ {image : List ℕ} (a : Accepted image) (args : List ℕ) (l : Fitting a args) where
+  -- Demand 1: then 21, and the table is not touched.
+  demand-1-table : (fuel : ℕ) (table : List ℕ) → largestTable < length table → answer image args fuel table ≡ refusal 21 table
+  demand-1-table fuel table = Answers.table-refused a args fuel table (Whole.fitting a args l)
+
+  -- Demand 2: else the answer is the run's on trees: its ending's number and value, its steps and words, and its words at the front of the table, which keeps its length.
+  demand-2-answer : (fuel : ℕ) (table : List ℕ) → length table ≤ largestTable → answer image args fuel table ≡ answerOf (runTrees image args fuel (length table)) table
+  demand-2-answer = Answers.accepted-answer a args (Whole.fitting a args l)
+
+  demand-2-table : (fuel : ℕ) (table : List ℕ) → length (answerOf (runTrees image args fuel (length table)) table .table) ≡ length table
+  demand-2-table = Answers.same-length a args (Whole.fitting a args l)
+
+  -- Demand 2: that run's ending with its value, its steps, and how many words it stores, are those of the paper's abstract machine on the image's program,
   demand-2-machine : (fuel size : ℕ) → (runTrees image args fuel size .how ≡ runTerms (a .program) args fuel size .how)
       × (runTrees image args fuel size .steps ≡ runTerms (a .program) args fuel size .steps)
       × (words (runTrees image args fuel size .final) ≡ runTerms (a .program) args fuel size .final .words)
   demand-2-machine = Whole.same a args (Whole.fitting a args l)
 
-  -- Demand 2: the run's answer is that outcome's number and value, its steps and words, and the table that it leaves.
-  demand-2-answer : (fuel : ℕ) (table : List ℕ) → length table ≤ largestTable → answer image args fuel table ≡ answerOf (runTrees image args fuel (length table)) table
-  demand-2-answer = Answers.accepted-answer a args (Whole.fitting a args l)
+  -- and whatever it reaches stands for what the paper's machine reaches after as many steps: the same statement, and the same values, of which a raw one also knows its block's position.
+  demand-2-reached : (size n : ℕ) (c : Configuration) → Reached (step image) words size (start image args) n c
+      → (k : Machine.Configuration) × Reached (Machine.step (a .program)) (λ k. k .words) size (Machine.start (a .program) args) n k × Together image (a .program .signatures) (a .program .labels) c k
+  demand-2-reached = Whole.reached a args (Whole.fitting a args l)
 
   -- Demand 3: every configuration that the machine reaches has a next step.
   demand-3-next : (size n : ℕ) (c : Configuration) → Reached (step image) words size (start image args) n c → step image c ≢ stuck
@@ -57,19 +86,3 @@ module _ {image : List ℕ} (a : Accepted image) (args : List ℕ) (l : Argument
   -- Demand 3: it ends only by exit, by fuel spent, or by room spent, the last exactly when document 01 says.
   demand-3-ends : (fuel size : ℕ) (o : Outcome Configuration) → (runTrees image args fuel size ≡ o) ↔ Ends (step image) words size (start image args) fuel o
   demand-3-ends = Whole.ends-exactly a args (Whole.fitting a args l)
-
--- Demand 1: a refused image gets a number of the table.
-demand-1-number : (image : List ℕ) → firstFault image .number ≤ 11
-demand-1-number = Exact.number-below
-
--- An answer has the number of an ending; or it is a refusal, which leaves the table.
-abbrev Closed : Answer → List ℕ → Type 0
-Closed r table = ((40 ≤ r .number) × (r .number ≤ 42)) ⊎ ((1 ≤ r .number) × (r .number ≤ 21) × (r ≡ refusal (r .number) table))
-
--- Demand 1: whatever the input, a run exits, spends its fuel or its room, or is refused with its number; then nothing is written to the table.
-demand-1-run : (image args : List ℕ) (fuel : ℕ) (table : List ℕ) → Bytes image → Closed (answer image args fuel table) table
-demand-1-run = Answers.closed
-
--- Demand 2: the table keeps its length, whatever the input.
-demand-2-table : (image args : List ℕ) (fuel : ℕ) (table : List ℕ) → Bytes image → length (answer image args fuel table .table) ≡ length table
-demand-2-table = Answers.same-length
