@@ -1,0 +1,17 @@
+-- What the readers of items give at an offset of a slice. Assumes nothing.
+use Prim.Native.Nat.{ℕ, zero, suc, _+_, _*_, _≤_, _<_}
+use mathlib.Core.Path.{_≡_, refl, ap, sym, _∙_}
+use mathlib.Core.List.{List, [], _∷_}
+use native.Mathlib.Numerals.{add-one}
+use native.Mathlib.Omega.{arith}
+use lib.ListN.{length, getD, take, drop}
+use lib.Seq.{drop-cons, drop-length}
+use Rattle.definitions.specs.Reader.{fault, Read, got, refused, byte}
+
+pub byte-end : (s : List ℕ) (at : ℕ) → at ≡ length s → byte at (drop at s) ≡ refused (fault 3 at)
+unfolding byte
+byte-end s at e = rw (e, drop-length s)
+
+pub byte-at : (s : List ℕ) (at : ℕ) → at < length s → byte at (drop at s) ≡ got (getD s at 0) (at + 1) (drop (at + 1) s)
+unfolding byte
+byte-at s at h = rw (drop-cons s at 0 h, add-one at)

@@ -1,0 +1,16 @@
+pub mod Bytes
+pub mod Loops
+pub mod Types
+pub mod Counts
+pub mod Places
+pub mod Filling
+pub mod Held
+pub mod Positions
+pub mod Symbols
+pub mod Lists
+pub mod FormLaws
+pub mod ClauseHeads
+pub mod RegionLaws
+pub mod StatementLaws
+pub mod BodyLaws
+pub mod CheckLaws

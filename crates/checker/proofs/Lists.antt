@@ -1,0 +1,126 @@
+-- What stands at an offset, and what an array of types holds. Assumes nothing.
+use Prim.Native.Nat.{ℕ, zero, suc, _+_, _-_, _≤_, _<_}
+use mathlib.Core.Path.{_≡_, refl, ap, sym, _∙_}
+use mathlib.Core.List.{List, [], _∷_, _++_, append-assoc, append-nil, map, flatMap}
+use mathlib.Core.Bool.{Bool, true, false, _&&_}
+use mathlib.Core.Option.{Option, none, some}
+use native.Mathlib.Nat.{zero-add, suc-add}
+use native.Mathlib.Numerals.{add-one}
+use native.Mathlib.Omega.{arith}
+use lib.ListN.{length, getD, getElem?, take, drop, length-append, length-drop, length-map, take-append-drop}
+use lib.Seq.{drop-drop, drop-append-seam, take-append-seam, getD-drop, length-take-le, take-take, take-nil}
+use Rattle.definitions.specs.Terms.{Ty, Environment, Signature}
+use Rattle.definitions.specs.Typing.{At}
+use Rattle.definitions.specs.Layout.{typeBytes, counted}
+use Rattle.definitions.specs.Ends.{front, back}
+use Rattle.definitions.specs.FirstFault.{sameType, sameTypes}
+use Rattle.checker.specs.Laid.{Laid, Holds, parametersBytes, signatureBytes}
+
+-- ---- bytes at an offset
+
+module _ (s : List ℕ) where
+  pub laid-append : (at : ℕ) (xs ys : List ℕ) → Laid s at (xs ++ ys) → Laid s (at + length xs) ys
+  laid-append at xs ys l = record { rest = l .rest; bytes = rw (← (drop-drop (length xs) at s), l .bytes, append-assoc xs ys (l .rest), drop-append-seam xs (ys ++ l .rest)) }
+
+  pub laid-front : (at : ℕ) (xs ys : List ℕ) → Laid s at (xs ++ ys) → Laid s at xs
+  laid-front at xs ys l = record { rest = ys ++ l .rest; bytes = l .bytes ∙ append-assoc xs ys (l .rest) }
+
+  pub laid-take : (at : ℕ) (xs : List ℕ) → Laid s at xs → take (length xs) (drop at s) ≡ xs
+  laid-take at xs l = rw (l .bytes, take-append-seam xs (l .rest))
+
+  pub laid-byte : (at b : ℕ) (bs : List ℕ) → Laid s at (b ∷ bs) → getD s at 0 ≡ b
+  laid-byte at b bs l =
+      let e : getD (drop at s) 0 0 ≡ getD s (at + 0) 0 = getD-drop at s 0 0 in
+      let z : at + 0 ≡ at = omega arith in
+      sym (rw z at e) ∙ ap (λ (xs : List ℕ). getD xs 0 0) (l .bytes)
+
+  -- something stands there, so the offset is inside
+  pub laid-inside : (at b : ℕ) (bs : List ℕ) → Laid s at (b ∷ bs) → at + suc (length bs) ≤ length s
+  laid-inside at b bs l =
+      let n : length s - at ≡ suc (length (bs ++ l .rest)) = sym (length-drop at s) ∙ ap length (l .bytes) in
+      omega (arith, length-append bs (l .rest))
+
+-- ---- lists of types
+
+pub types-length : (Γ : Environment) → length (flatMap typeBytes Γ) ≡ length Γ + length Γ
+unfolding flatMap
+types-length [] = refl
+types-length (t ∷ Γ) = omega (arith, types-length Γ)
+
+-- a list of parameters at an offset: its count byte, and its types behind it
+pub record Parameters (s : List ℕ) (list : ℕ) (Γ : Environment) : Type 0 where
+  pub count : getD s list 0 ≡ length Γ
+  pub inside : list + 1 + (length Γ + length Γ) ≤ length s
+  pub types : take (length Γ + length Γ) (drop (list + 1) s) ≡ flatMap typeBytes Γ
+
+pub parameters-at : (s : List ℕ) (list : ℕ) (Γ : Environment) → Laid s list (parametersBytes Γ) → Parameters s list Γ
+unfolding counted
+parameters-at s list Γ l =
+    record {
+      count = laid-byte s list (length Γ) (flatMap typeBytes Γ) l;
+      inside = omega (arith, laid-inside s list (length Γ) (flatMap typeBytes Γ) l, types-length Γ);
+      types = rw (types-length Γ) at (laid-take s (list + 1) (flatMap typeBytes Γ) (laid-append s list (length Γ ∷ []) (flatMap typeBytes Γ) l));
+    }
+
+-- ---- environments
+
+map-take : {A B : Type 0} (f : A → B) (n : ℕ) (l : List A) → take n (map f l) ≡ map f (take n l)
+map-take f zero l = refl
+map-take f (suc n) [] = refl
+map-take f (suc n) (x ∷ l) = ap (λ t. f x ∷ t) (map-take f n l)
+
+map-drop : {A B : Type 0} (f : A → B) (n : ℕ) (l : List A) → drop n (map f l) ≡ map f (drop n l)
+map-drop f zero l = refl
+map-drop f (suc n) [] = refl
+map-drop f (suc n) (x ∷ l) = map-drop f n l
+
+pub drop-take : {A : Type 0} (m n : ℕ) (l : List A) → drop m (take (m + n) l) ≡ take n (drop m l)
+drop-take zero n l = rw zero-add
+drop-take (suc m) n [] = rw (suc-add, take-nil)
+drop-take (suc m) n (x ∷ l) = rw suc-add (drop-take m n l)
+
+module _ (env : List (List ℕ)) (full : length env ≡ 32) (width : ℕ) (narrow : width ≤ 32) (Δ : Environment) (h : Holds env width Δ) where
+  pub holds-length : length Δ ≡ width
+  holds-length = sym (length-map Δ typeBytes) ∙ ap length (sym h) ∙ length-take-le width env (omega arith)
+
+  pub holds-front : (n : ℕ) → n ≤ width → Holds env (width - n) (front Δ n)
+  holds-front n l =
+      let e : length Δ - n ≡ width - n = ap (λ k. k - n) holds-length in
+      rw (e, ← (map-take typeBytes (width - n) Δ), ← h, take-take (width - n) width env (omega arith))
+
+  pub holds-back : (n : ℕ) → n ≤ width → take n (drop (width - n) env) ≡ map typeBytes (back Δ n)
+  holds-back n l =
+      let e : length Δ - n ≡ width - n = ap (λ k. k - n) holds-length in
+      let g : width - n + n ≡ width = omega arith in
+      rw (e, ← (map-drop typeBytes (width - n) Δ), ← h) (rw g at (sym (drop-take (width - n) n env)))
+
+  pub back-length : (n : ℕ) → n ≤ width → length (back Δ n) ≡ n
+  back-length n l = rw length-drop (omega (arith, holds-length))
+
+-- lists of different lengths differ
+pub sameTypes-lengths : (Δ Γ : Environment) → (length Δ ≡ length Γ → ⊥) → sameTypes Δ Γ ≡ false
+sameTypes-lengths [] [] n = absurd (n refl)
+sameTypes-lengths [] (u ∷ us) n = refl
+sameTypes-lengths (t ∷ ts) [] n = refl
+sameTypes-lengths (t ∷ ts) (u ∷ us) n = go (sameType t u) (sameTypes-lengths ts us (λ e. n (ap suc e)))
+  where
+    go : (b : Bool) → sameTypes ts us ≡ false → b && sameTypes ts us ≡ false
+    go true e = e
+    go false e = refl
+
+-- ---- entries of a list
+
+pub at-some : {A : Type 0} (l : List A) (i : ℕ) → i < length l → (a : A) × At l i a
+at-some [] i h = absurd (omega arith)
+at-some (x ∷ l) zero h = (x, refl)
+at-some (x ∷ l) (suc i) h = at-some l i (omega arith)
+
+pub at-none : {A : Type 0} (l : List A) (i : ℕ) → length l ≤ i → getElem? l i ≡ none
+at-none [] i h = refl
+at-none (x ∷ l) zero h = absurd (omega arith)
+at-none (x ∷ l) (suc i) h = at-none l i (omega arith)
+
+pub at-below : {A : Type 0} (l : List A) (i : ℕ) (a : A) → At l i a → i < length l
+at-below [] i a e = let z : _≡_ {A = ℕ} 0 1 = cc in absurd (omega arith)
+at-below (x ∷ l) zero a e = omega arith
+at-below (x ∷ l) (suc i) a e = omega (arith, at-below l i a e)

@@ -1,0 +1,141 @@
+-- What stands where in an image: parts, what is behind a list, and tables of offsets. Assumes nothing.
+use Prim.Native.Nat.{ℕ, zero, suc, _+_, _-_, _*_, _≤_, _<_}
+use mathlib.Core.Path.{_≡_, refl, ap, sym, _∙_}
+use mathlib.Core.List.{List, [], _∷_, _++_, append-assoc, flatMap}
+use native.Mathlib.Numerals.{add-one}
+use native.Mathlib.Omega.{arith}
+use borrow.Author.Count.{below-more}
+use lib.ListN.{length, getD, set, drop, length-append, length-drop}
+use lib.Seq.{drop-cons, drop-drop, drop-append-seam, getD-set-same, getD-set-other}
+use Rattle.definitions.specs.Terms.{Environment}
+use Rattle.definitions.specs.Typing.{At}
+use Rattle.definitions.specs.Layout.{typeBytes, counted}
+use Rattle.checker.specs.Laid.{Laid, parametersBytes}
+use Rattle.checker.specs.Places.{Behind, PlacedFrom}
+
+-- ---- parts of what stands somewhere
+
+module _ (s : List ℕ) (at : ℕ) (xs ys : List ℕ) (h : Laid s at (xs ++ ys)) where
+  pub laid-front : Laid s at xs
+  laid-front = record { rest = ys ++ h .rest; bytes = h .bytes ∙ append-assoc xs ys (h .rest) }
+
+  pub laid-back : Laid s (at + length xs) ys
+  laid-back = record { rest = h .rest; bytes = sym (drop-drop (length xs) at s) ∙ (ap (drop (length xs)) (h .bytes ∙ append-assoc xs ys (h .rest)) ∙ drop-append-seam xs (ys ++ h .rest)) }
+
+pub laid-long : (s : List ℕ) (at : ℕ) (xs : List ℕ) → Laid s at xs → length xs ≤ length s - at
+laid-long s at xs h = omega (arith, length-drop at s, length-append xs (h .rest), ap length (h .bytes))
+
+module _ (s : List ℕ) (at x : ℕ) (xs : List ℕ) (h : Laid s at (x ∷ xs)) where
+  pub laid-below : at < length s
+  laid-below = omega (arith, laid-long s at (x ∷ xs) h)
+
+  pub laid-first : getD s at 0 ≡ x
+  laid-first = cc (h .bytes, drop-cons s at 0 laid-below)
+
+  pub laid-next : Laid s (at + 1) xs
+  laid-next = laid-back s at (x ∷ []) xs h
+
+-- a count, and what it counts
+pub laid-counted : {A : Type 0} (f : A → List ℕ) (s : List ℕ) (at : ℕ) (l : List A) → Laid s at (counted f l) → (getD s at 0 ≡ length l) × Laid s (at + 1) (flatMap f l)
+unfolding counted
+laid-counted f s at l h = (laid-first s at (length l) (flatMap f l) h, laid-next s at (length l) (flatMap f l) h)
+
+-- ---- what is behind a list
+
+-- where so many more end that stand from an offset on
+pub record Through {A : Type 0} (f : A → List ℕ) (s : List ℕ) (p n r : ℕ) : Type 0 where
+  pub through : (l : List A) → length l ≡ n → Laid s p (flatMap f l) → r ≡ p + length (flatMap f l)
+
+module _ {A : Type 0} (f : A → List ℕ) (s : List ℕ) where
+  pub behind-none : (at r : ℕ) → length s ≤ at → Behind (counted f) s at r
+  unfolding counted
+  behind-none at r h = record { behind = λ l w. absurd (omega (arith, laid-below s at (length l) (flatMap f l) w)) }
+
+  pub through-counted : (at r : ℕ) → Through f s (at + 1) (getD s at 0) r → Behind (counted f) s at r
+  unfolding counted
+  through-counted at r t = record { behind = λ l w. let (e, next) = laid-counted f s at l w in t .through l (sym e) next ∙ omega arith }
+
+  pub through-none : (p n : ℕ) → n ≡ 0 → Through f s p n p
+  unfolding flatMap
+  through-none p n e = record { through = go }
+    where
+      go : (l : List A) → length l ≡ n → Laid s p (flatMap f l) → p ≡ p + length (flatMap f l)
+      go [] h w = omega arith
+      go (a ∷ l) h w = absurd (omega arith)
+
+  pub through-more : (p n q r : ℕ) → (n ≡ 0 → ⊥) → Behind f s p q → Through f s q (n - 1) r → Through f s p n r
+  unfolding flatMap
+  through-more p n q r some b t = record { through = go }
+    where
+      go : (l : List A) → length l ≡ n → Laid s p (flatMap f l) → r ≡ p + length (flatMap f l)
+      go [] h w = absurd (some (sym h))
+      go (a ∷ l) h w =
+          let e : q ≡ p + length (f a) = b .behind a (laid-front s p (f a) (flatMap f l) w) in
+          let i : Laid s q (flatMap f l) = rw e (laid-back s p (f a) (flatMap f l) w) in
+          omega (arith, t .through l (omega arith) i, length-append (f a) (flatMap f l))
+
+-- ---- parameters
+
+types-length : (Γ : Environment) → length (flatMap typeBytes Γ) ≡ 2 * length Γ
+unfolding flatMap
+types-length [] = refl
+types-length (t ∷ Γ) = omega (arith, types-length Γ)
+
+pub parameters-length : (Γ : Environment) → length (parametersBytes Γ) ≡ 1 + 2 * length Γ
+unfolding counted
+parameters-length Γ = omega (arith, types-length Γ)
+
+module _ (s : List ℕ) (at : ℕ) where
+  pub parameters-past : (r : ℕ) → length s - at < 1 + 2 * getD s at 0 → Behind parametersBytes s at r
+  unfolding counted
+  parameters-past r h = record { behind = λ Γ w. absurd (omega (arith, laid-first s at (length Γ) (flatMap typeBytes Γ) w, laid-long s at (length Γ ∷ flatMap typeBytes Γ) w, types-length Γ)) }
+
+  pub parameters-fine : Behind parametersBytes s at (at + (1 + 2 * getD s at 0))
+  unfolding counted
+  parameters-fine = record { behind = λ Γ w. omega (arith, laid-first s at (length Γ) (flatMap typeBytes Γ) w, types-length Γ) }
+
+-- ---- tables
+
+-- what is known where the first i entries are placed, and the others stand from p on
+pub record Placing {A : Type 0} (f : A → List ℕ) (s : List ℕ) (at count p i : ℕ) (table : List ℕ) : Type 0 where
+  pub rest : (l : List A) → length l ≡ count → Laid s at (flatMap f l) → Laid s p (flatMap f (drop i l))
+  pub done : (l : List A) → length l ≡ count → Laid s at (flatMap f l) → (k : ℕ) → k < i → (a : A) → At l k a → Laid s (getD table k 0) (f a)
+
+-- an entry of a list
+pub entry : {A : Type 0} (l : List A) (i : ℕ) → i < length l → (a : A) × (At l i a) × (drop i l ≡ a ∷ drop (suc i) l)
+entry [] i h = absurd (omega arith)
+entry (a ∷ l) zero h = (a, refl, refl)
+entry (a ∷ l) (suc i) h = entry l i (omega arith)
+
+pub at-below : {A : Type 0} (l : List A) (i : ℕ) (a : A) → At l i a → i < length l
+at-below [] i a h = let z : _≡_ {A = ℕ} 0 1 = cc in absurd (omega arith)
+at-below (b ∷ l) zero a h = omega arith
+at-below (b ∷ l) (suc i) a h = omega (arith, at-below l i a h)
+
+module _ {A : Type 0} (f : A → List ℕ) (s : List ℕ) (at count : ℕ) where
+  pub placing-none : (table : List ℕ) → Placing f s at count at 0 table
+  placing-none table = record { rest = λ l h w. w; done = λ l h w k b a e. absurd (omega arith) }
+
+  pub placing-all : (p i : ℕ) (table : List ℕ) → count ≤ i → Placing f s at count p i table → PlacedFrom f s at count table
+  placing-all p i table g t = record { placed = λ l h w k a e. t .done l h w k (omega (arith, at-below l k a e)) a e }
+
+  module _ (p i q : ℕ) (table : List ℕ) (below : i < count) (wide : i < length table) (b : Behind f s p q) (t : Placing f s at count p i table) where
+    -- the next entry, and those behind it
+    here : (l : List A) → length l ≡ count → Laid s at (flatMap f l) → (a : A) → At l i a → Laid s p (f a) × Laid s q (flatMap f (drop (i + 1) l))
+    unfolding flatMap
+    here l h w a e =
+        let (c, v, d) = entry l i (omega arith) in
+        let z : c ≡ a = cc in
+        let j : Laid s p (f c ++ flatMap f (drop (suc i) l)) = rw d at (t .rest l h w) in
+        let front : Laid s p (f c) = laid-front s p (f c) (flatMap f (drop (suc i) l)) j in
+        let g : q ≡ p + length (f c) = b .behind c front in
+        (rw (← z) front, rw (g, add-one i) (laid-back s p (f c) (flatMap f (drop (suc i) l)) j))
+
+    pub placing-more : Placing f s at count q (i + 1) (set table i p)
+    placing-more = record { rest = λ l h w. let (a, v, d) = entry l i (omega arith) in here l h w a v .1; done = done-more }
+      where
+        done-more : (l : List A) → length l ≡ count → Laid s at (flatMap f l) → (k : ℕ) → k < i + 1 → (a : A) → At l k a → Laid s (getD (set table i p) k 0) (f a)
+        done-more l h w =
+            below-more (λ (k : ℕ). (a : A) → At l k a → Laid s (getD (set table i p) k 0) (f a)) i
+            (λ k g a e. let ne : k ≡ i → ⊥ = (λ z. omega arith) in rw (getD-set-other table i k p 0 ne) (t .done l h w k g a e))
+            (λ a e. rw (getD-set-same table i p 0 wide) (here l h w a e .0))

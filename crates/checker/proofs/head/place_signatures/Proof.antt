@@ -1,0 +1,53 @@
+use native.Mathlib.Omega.{arith}
+use mathlib.Core.Path.{_≡_, refl}
+use Prim.Native.Nat.{_≤_, _-_}
+use lib.ListN.{length, length-set}
+use Rattle.checker.specs.Laid.{signatureBytes}
+use Rattle.checker.proofs.Places as law
+use Rattle.checker.proofs.head.place_signatures.Statement.{statement}
+use Rattle.checker.proofs.head.place_signatures.Tie as tie
+
+abbrev Inv-loop : tie.InvT-loop
+Inv-loop s at count table₀ p₀ i₀ table p i = (i ≤ count) × ((length table ≡ 64) × law.Placing signatureBytes s at count p i table)
+
+abbrev μ-loop : tie.MeasureT-loop
+μ-loop s at count table₀ p₀ i₀ table p i = count - i
+
+loop-holds : tie.Need-loop-holds Inv-loop μ-loop
+loop-holds c = (omega arith, (refl, law.placing-none signatureBytes _ _ _ _))
+
+mul-table : tie.Need-mul-table Inv-loop μ-loop
+mul-table c = omega arith
+
+array-write-table : tie.Need-array-write-table Inv-loop μ-loop
+array-write-table c = omega arith
+
+skip-signature-requires : tie.Need-skip-signature-requires Inv-loop μ-loop
+skip-signature-requires c κs = tt
+
+add-i : tie.Need-add-i Inv-loop μ-loop
+add-i c = omega arith
+
+loop-less : tie.Need-loop-less Inv-loop μ-loop
+loop-less c = omega arith
+
+loop-again : tie.Need-loop-again Inv-loop μ-loop
+loop-again c = (omega arith, (simp length-set (c .before .before .loop .inv .1 .0), law.placing-more signatureBytes _ _ _ _ _ _ _ (c .before .loop-test .taken) (omega arith) (c .skip-signature .ensures) (c .before .before .loop .inv .1 .1)))
+
+returns : tie.Need-returns Inv-loop μ-loop
+returns c = law.placing-all signatureBytes _ _ _ _ _ _ (omega arith) (c .before .loop .inv .1 .1)
+
+pub place-signatures-spec : {M : Type 1} → statement M
+place-signatures-spec =
+    tie.close
+    (tie.spec
+    Inv-loop
+    μ-loop
+    loop-holds
+    mul-table
+    array-write-table
+    skip-signature-requires
+    add-i
+    loop-less
+    loop-again
+    returns)

@@ -1,0 +1,56 @@
+// The check: the first fault of every byte string.
+ghost use mathlib.Core.Path.{_≡_};
+ghost use Rattle.definitions.specs.Reader.{fault};
+ghost use Rattle.definitions.specs.FirstFault.{firstFault};
+
+mod entries;
+mod forms;
+mod head;
+mod statements;
+mod whole;
+
+// Where a walk over a region goes on, or the number and offset of its first fault.
+pub enum Walk {
+    On(usize),
+    Bad(u8, usize),
+}
+
+// A number that names one of so many things, or the fault.
+pub enum Name {
+    Is(usize),
+    Not(u8, usize),
+}
+
+// Where a statement that goes on ends, and a number that it gives: a width or a count; or the fault.
+pub enum Step {
+    To(usize, usize),
+    Fails(u8, usize),
+}
+
+// Where an operation's arguments stand, how many they are, how many clauses follow, and how many integers each gains; or the fault.
+pub enum Takes {
+    Known(usize, usize, usize, usize),
+    Unknown(u8, usize),
+}
+
+// The number and offset of the first fault: 0 at the image's length where there is none.
+pub struct Verdict {
+    pub number: u8,
+    pub offset: usize,
+}
+
+// The first fault of a byte string.
+pub fn check(image: &[u8]) -> Verdict
+    ensures { λ r. ⌜ fault (r .number) (r .offset) ≡ firstFault (now (image .entry)) ⌝ }
+{
+    match whole::read_image(image) {
+        Walk::On(end) => Verdict {
+            number: 0,
+            offset: end,
+        },
+        Walk::Bad(n, o) => Verdict {
+            number: n,
+            offset: o,
+        },
+    }
+}

@@ -1,0 +1,318 @@
+// Statements and clauses, which contain one another.
+ghost use mathlib.Core.Path.{_≡_};
+ghost use Prim.Native.Nat.{ℕ, _+_, _-_, _≤_, _<_};
+ghost use lib.ListN.{length, getD, take, drop};
+ghost use Rattle.checker.specs.Laid.{Known, SignatureAt, signatureBytes, parametersBytes};
+ghost use Rattle.checker.specs.Shown.{forget, shown, Within};
+ghost use Rattle.checker.specs.Statements.{StatementIs, RegionIs, ClausesAre, BareAre, ExternIs, GainIs};
+use crate::Name;
+use crate::Step;
+use crate::Takes;
+use crate::Walk;
+use crate::entries::arguments;
+use crate::entries::gather;
+use crate::entries::push;
+use crate::entries::put_entries;
+use crate::entries::put_types;
+use crate::forms::expect_byte;
+use crate::forms::invoke;
+use crate::forms::jump;
+use crate::forms::let_head;
+use crate::forms::new_head;
+use crate::forms::operation;
+use crate::forms::substitute_head;
+use crate::forms::switch_head;
+
+// The environment with an integer more, where one is gained and there is a place for it.
+fn gain(env: [[u8; 2]; 32], width: usize, gained: usize) -> [[u8; 2]; 32]
+    requires { ⌜ (width ≤ 32) × (gained ≤ 1) ⌝ }
+    ensures { λ r. ⌜ GainIs env width gained r ⌝ }
+{
+    if gained == 0 {
+        return env;
+    }
+    if width == 32 {
+        return env;
+    }
+    push(env, width, 2, 0)
+}
+
+// The statement at `at` of the region s, `depth` clauses deep, with an environment of `width` entries.
+pub(crate) fn stmt(
+    image: &[u8],
+    sigs: &[usize],
+    labels: &[usize],
+    s: &[u8],
+    env: [[u8; 2]; 32],
+    width: usize,
+    depth: usize,
+    at: usize,
+) -> Walk
+    requires { ⌜ (at ≤ length (now s)) × ((width ≤ 32) × ((depth ≤ 48) × ((length (now image) ≤ 16384) × ((Known signatureBytes (now image) (now sigs) × Known parametersBytes (now image) (now labels)))))) ⌝ }
+    ensures within { λ r. ⌜ Within at (now (s .entry)) r ⌝ }
+    ensures { λ r. ⌜ StatementIs (now (image .entry)) (now (sigs .entry)) (now (labels .entry)) (now (s .entry)) env width depth at r ⌝ }
+{
+    let mut e = env;
+    let mut w = width;
+    let mut p = at;
+    loop {
+        if p == s.len() {
+            return Walk::Bad(3, p);
+        }
+        let code = s[p];
+        match code {
+            0 => {
+                return jump(image, labels, s, e, w, p);
+            }
+            1 => match substitute_head(s, w, p) {
+                Step::To(on, count) => {
+                    let named = gather(s, e, p + 1 + 1, count);
+                    e = named;
+                    w = count;
+                    p = on;
+                }
+                Step::Fails(n, o) => {
+                    return Walk::Bad(n, o);
+                }
+            },
+            2 => {
+                return extern_(image, sigs, labels, s, e, w, depth, p + 1);
+            }
+            3 => match let_head(image, sigs, s, e, w, p) {
+                Step::To(on, kept) => {
+                    let t = s[p + 1];
+                    let made = push(e, kept, 0, t);
+                    e = made;
+                    w = kept + 1;
+                    p = on;
+                }
+                Step::Fails(n, o) => {
+                    return Walk::Bad(n, o);
+                }
+            },
+            4 => match new_head(image, sigs, s, w, p) {
+                Step::To(sig, captures) => {
+                    let kept = w - captures;
+                    match clauses(
+                        image,
+                        sigs,
+                        labels,
+                        s,
+                        e,
+                        0,
+                        kept,
+                        captures,
+                        depth,
+                        p + 1 + 1 + 1 + 1,
+                        sig,
+                    ) {
+                        Walk::On(on) => {
+                            if kept == 32 {
+                                return Walk::Bad(5, p);
+                            }
+                            let t = s[p + 1];
+                            let made = push(e, kept, 1, t);
+                            e = made;
+                            w = kept + 1;
+                            p = on;
+                        }
+                        Walk::Bad(n, o) => {
+                            return Walk::Bad(n, o);
+                        }
+                    }
+                }
+                Step::Fails(n, o) => {
+                    return Walk::Bad(n, o);
+                }
+            },
+            5 => match switch_head(image, sigs, s, e, w, p) {
+                Name::Is(sig) => {
+                    return clauses(
+                        image,
+                        sigs,
+                        labels,
+                        s,
+                        e,
+                        w - 1,
+                        0,
+                        0,
+                        depth,
+                        p + 1 + 1 + 1,
+                        sig,
+                    );
+                }
+                Name::Not(n, o) => {
+                    return Walk::Bad(n, o);
+                }
+            },
+            6 => {
+                return invoke(image, sigs, s, e, w, p);
+            }
+            _ => {
+                return Walk::Bad(6, p);
+            }
+        }
+    }
+}
+
+// extern, of which the operation stands at `at`.
+fn extern_(
+    image: &[u8],
+    sigs: &[usize],
+    labels: &[usize],
+    s: &[u8],
+    env: [[u8; 2]; 32],
+    width: usize,
+    depth: usize,
+    at: usize,
+) -> Walk
+    requires { ⌜ (at ≤ length (now s)) × ((width ≤ 32) × ((depth ≤ 48) × ((length (now image) ≤ 16384) × ((Known signatureBytes (now image) (now sigs) × Known parametersBytes (now image) (now labels)))))) ⌝ }
+    ensures within { λ r. ⌜ Within at (now (s .entry)) r ⌝ }
+    ensures { λ r. ⌜ ExternIs (now (image .entry)) (now (sigs .entry)) (now (labels .entry)) (now (s .entry)) env width depth at r ⌝ }
+{
+    match operation(s, at) {
+        Takes::Known(next, args, many, gained) => match arguments(s, env, width, next, args) {
+            Walk::On(p) => {
+                let e = gain(env, width, gained);
+                bare_clauses(image, sigs, labels, s, e, width + gained, depth, p, many)
+            }
+            Walk::Bad(n, o) => Walk::Bad(n, o),
+        },
+        Takes::Unknown(n, o) => Walk::Bad(n, o),
+    }
+}
+
+// `many` clauses without symbol byte from `at` on, each with the environment of `width` entries.
+fn bare_clauses(
+    image: &[u8],
+    sigs: &[usize],
+    labels: &[usize],
+    s: &[u8],
+    env: [[u8; 2]; 32],
+    width: usize,
+    depth: usize,
+    at: usize,
+    many: usize,
+) -> Walk
+    requires { ⌜ (at ≤ length (now s)) × ((width ≤ 33) × ((depth ≤ 48) × ((length (now image) ≤ 16384) × ((Known signatureBytes (now image) (now sigs) × Known parametersBytes (now image) (now labels)))))) ⌝ }
+    ensures within { λ r. ⌜ Within at (now (s .entry)) r ⌝ }
+    ensures { λ r. ⌜ BareAre (now (image .entry)) (now (sigs .entry)) (now (labels .entry)) (now (s .entry)) env width depth many at r ⌝ }
+{
+    let mut p = at;
+    let mut left = many;
+    while left != 0 {
+        if 32 < width {
+            return Walk::Bad(5, p);
+        }
+        if depth == 48 {
+            return Walk::Bad(10, p);
+        }
+        match region(image, sigs, labels, s, env, width, depth + 1, p) {
+            Walk::On(on) => {
+                p = on;
+            }
+            Walk::Bad(n, o) => {
+                return Walk::Bad(n, o);
+            }
+        }
+        left -= 1;
+    }
+    Walk::On(p)
+}
+
+// The clauses from `at` on, one for each symbol of the signature at `sig`: each starts with the first `before` entries, its symbol's parameters, and the `behind` entries from `from` on.
+fn clauses(
+    image: &[u8],
+    sigs: &[usize],
+    labels: &[usize],
+    s: &[u8],
+    env: [[u8; 2]; 32],
+    before: usize,
+    from: usize,
+    behind: usize,
+    depth: usize,
+    at: usize,
+    sig: usize,
+) -> Walk
+    requires { ⌜ (at ≤ length (now s)) × ((before ≤ 32) × ((from + behind ≤ 32) × ((depth ≤ 48) × ((length (now image) ≤ 16384) × ((SignatureAt (now image) sig) × ((Known signatureBytes (now image) (now sigs) × Known parametersBytes (now image) (now labels)))))))) ⌝ }
+    ensures within { λ r. ⌜ Within at (now (s .entry)) r ⌝ }
+    ensures { λ r. ⌜ ClausesAre (now (image .entry)) (now (sigs .entry)) (now (labels .entry)) (now (s .entry)) env before from behind depth sig at r ⌝ }
+{
+    let many = image[sig] as usize;
+    let mut p = at;
+    let mut list = sig + 1;
+    let mut i: usize = 0;
+    while i < many {
+        match expect_byte(s, i, p) {
+            Walk::On(next) => {
+                let n = image[list] as usize;
+                if 32 < before + n + behind {
+                    return Walk::Bad(5, p);
+                }
+                if depth == 48 {
+                    return Walk::Bad(10, p);
+                }
+                let types = put_types(env, before, image, list + 1, n);
+                let inner = put_entries(types, before + n, env, from, behind);
+                match region(
+                    image,
+                    sigs,
+                    labels,
+                    s,
+                    inner,
+                    before + n + behind,
+                    depth + 1,
+                    next,
+                ) {
+                    Walk::On(on) => {
+                        p = on;
+                    }
+                    Walk::Bad(k, o) => {
+                        return Walk::Bad(k, o);
+                    }
+                }
+                list = list + 1 + (n + n);
+            }
+            Walk::Bad(k, o) => {
+                return Walk::Bad(k, o);
+            }
+        }
+        i += 1;
+    }
+    Walk::On(p)
+}
+
+// The region of which the length field stands at `at`, filled by one statement.
+pub(crate) fn region(
+    image: &[u8],
+    sigs: &[usize],
+    labels: &[usize],
+    s: &[u8],
+    env: [[u8; 2]; 32],
+    width: usize,
+    depth: usize,
+    at: usize,
+) -> Walk
+    requires { ⌜ (at ≤ length (now s)) × ((width ≤ 32) × ((depth ≤ 48) × ((length (now image) ≤ 16384) × ((Known signatureBytes (now image) (now sigs) × Known parametersBytes (now image) (now labels)))))) ⌝ }
+    ensures within { λ r. ⌜ Within at (now (s .entry)) r ⌝ }
+    ensures { λ r. ⌜ RegionIs (now (image .entry)) (now (sigs .entry)) (now (labels .entry)) (now (s .entry)) env width depth at r ⌝ }
+{
+    if s.len() - at < 2 {
+        return Walk::Bad(3, at);
+    }
+    let size = s[at] as usize * 256 + s[at + 1] as usize;
+    let start = at + 2;
+    if s.len() - start < size {
+        return Walk::Bad(3, at);
+    }
+    let end = start + size;
+    match stmt(image, sigs, labels, &s[..end], env, width, depth, start) {
+        Walk::On(e) => {
+            if e != end {
+                return Walk::Bad(11, e);
+            }
+            Walk::On(end)
+        }
+        Walk::Bad(n, o) => Walk::Bad(n, o),
+    }
+}
