@@ -18,7 +18,7 @@ use Rattle.checker.specs.declared.Walk.the-variants.{On, Bad}
 use Rattle.checker.specs.Shown.{forget, shown, Within}
 use Rattle.checker.proofs.Bytes.{byte-end, byte-at}
 use Rattle.checker.proofs.Loops.{shown-bad, shown-on, forget-after, Times}
-use Rattle.checker.proofs.Types.{type-none}
+use Rattle.checker.proofs.TypeLaws.{type-none}
 
 -- ---- one reader after another
 

@@ -1,6 +1,6 @@
 pub mod Bytes
 pub mod Loops
-pub mod Types
+pub mod TypeLaws
 pub mod Counts
 pub mod Places
 pub mod Filling

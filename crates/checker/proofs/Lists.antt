@@ -59,7 +59,7 @@ parameters-at s list Γ l =
     record {
       count = laid-byte s list (length Γ) (flatMap typeBytes Γ) l;
       inside = omega (arith, laid-inside s list (length Γ) (flatMap typeBytes Γ) l, types-length Γ);
-      types = rw (types-length Γ) at (laid-take s (list + 1) (flatMap typeBytes Γ) (laid-append s list (length Γ ∷ []) (flatMap typeBytes Γ) l));
+      types = rw (types-length Γ) at (laid-take s (list + 1) (flatMap typeBytes Γ) (laid-append s list (length Γ ∷ []) (flatMap typeBytes Γ) l))
     }
 
 -- ---- environments

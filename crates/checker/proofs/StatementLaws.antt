@@ -48,7 +48,7 @@ module _ (image sigs labels s : List ℕ) (depth : ℕ) where
     -- the form that a code stands for
     coded : (c : ℕ) → getD s p 0 ≡ c → (r : Walk)
         → ((Σ : List Signature) (Θ : List Environment) (Δ : Environment) (f : ℕ) → Placed signatureBytes image sigs Σ → Placed parametersBytes image labels Θ → Holds env width Δ → length s - (p + 1) ≤ f
-        → forget (after (the (getElem? (forms Σ Θ (statement Σ Θ f)) c) 6 p (p + 1) (drop (p + 1) s)) (λ form. form p depth Δ)) ≡ shown s r)
+          → forget (after (the (getElem? (forms Σ Θ (statement Σ Θ f)) c) 6 p (p + 1) (drop (p + 1) s)) (λ form. form p depth Δ)) ≡ shown s r)
         → Answers env width p r
     unfolding after
     coded c e r g = record { is = λ Σ Θ Δ f a b k w. go Σ Θ Δ f a b k w }
@@ -179,8 +179,8 @@ module _ (image sigs labels s : List ℕ) (depth : ℕ) where
           -- the clauses' reader, and what follows it
           after-clauses : (r : Walk)
               → ((Σ : List Signature) (Θ : List Environment) (Δ : Environment) (f : ℕ) (S : Signature) → Placed signatureBytes image sigs Σ → Placed parametersBytes image labels Θ → Holds env width Δ → captures ≤ width → length s - (p + 1) ≤ f
-              → forget (clauses Σ Θ (statement Σ Θ f) named depth [] (back Δ captures) 0 S (p + 1 + 1 + 1 + 1) (drop (p + 1 + 1 + 1 + 1) s)) ≡ shown s x
-              → forget (after (clauses Σ Θ (statement Σ Θ f) named depth [] (back Δ captures) 0 S (p + 1 + 1 + 1 + 1) (drop (p + 1 + 1 + 1 + 1) s)) (λ cs. Reader′._>>_ (need (FirstFault.fits (front Δ captures ++ (cns (getD s (p + 1) 0) ∷ []))) 5 p) (Reader′._>>=_ (statement Σ Θ f depth (front Δ captures ++ (cns (getD s (p + 1) 0) ∷ []))) (λ u. Reader′.give (new (getD s (p + 1) 0) captures cs u))))) ≡ shown s r)
+                → forget (clauses Σ Θ (statement Σ Θ f) named depth [] (back Δ captures) 0 S (p + 1 + 1 + 1 + 1) (drop (p + 1 + 1 + 1 + 1) s)) ≡ shown s x
+                → forget (after (clauses Σ Θ (statement Σ Θ f) named depth [] (back Δ captures) 0 S (p + 1 + 1 + 1 + 1) (drop (p + 1 + 1 + 1 + 1) s)) (λ cs. Reader′._>>_ (need (FirstFault.fits (front Δ captures ++ (cns (getD s (p + 1) 0) ∷ []))) 5 p) (Reader′._>>=_ (statement Σ Θ f depth (front Δ captures ++ (cns (getD s (p + 1) 0) ∷ []))) (λ u. Reader′.give (new (getD s (p + 1) 0) captures cs u))))) ≡ shown s r)
               → Answers env width p r
           unfolding after the
           after-clauses r g = coded 4 c r (λ Σ Θ Δ f a b k w. go (rw e at h) Σ Θ f a b Δ k w t g)
@@ -188,8 +188,8 @@ module _ (image sigs labels s : List ℕ) (depth : ℕ) where
               go : {sig captures : ℕ} → NewIs image sigs s width p (To sig captures) → (Σ : List Signature) (Θ : List Environment) (f : ℕ) → Placed signatureBytes image sigs Σ → Placed parametersBytes image labels Θ → (Δ : Environment) → Holds env width Δ → length s - (p + 1) ≤ f
                   → ClausesAre image sigs labels s env 0 (width - captures) captures depth sig (p + 1 + 1 + 1 + 1) x
                   → ((Σ : List Signature) (Θ : List Environment) (Δ : Environment) (f : ℕ) (S : Signature) → Placed signatureBytes image sigs Σ → Placed parametersBytes image labels Θ → Holds env width Δ → captures ≤ width → length s - (p + 1) ≤ f
-                  → forget (clauses Σ Θ (statement Σ Θ f) named depth [] (back Δ captures) 0 S (p + 1 + 1 + 1 + 1) (drop (p + 1 + 1 + 1 + 1) s)) ≡ shown s x
-                  → forget (after (clauses Σ Θ (statement Σ Θ f) named depth [] (back Δ captures) 0 S (p + 1 + 1 + 1 + 1) (drop (p + 1 + 1 + 1 + 1) s)) (λ cs. Reader′._>>_ (need (FirstFault.fits (front Δ captures ++ (cns (getD s (p + 1) 0) ∷ []))) 5 p) (Reader′._>>=_ (statement Σ Θ f depth (front Δ captures ++ (cns (getD s (p + 1) 0) ∷ []))) (λ u. Reader′.give (new (getD s (p + 1) 0) captures cs u))))) ≡ shown s r)
+                    → forget (clauses Σ Θ (statement Σ Θ f) named depth [] (back Δ captures) 0 S (p + 1 + 1 + 1 + 1) (drop (p + 1 + 1 + 1 + 1) s)) ≡ shown s x
+                    → forget (after (clauses Σ Θ (statement Σ Θ f) named depth [] (back Δ captures) 0 S (p + 1 + 1 + 1 + 1) (drop (p + 1 + 1 + 1 + 1) s)) (λ cs. Reader′._>>_ (need (FirstFault.fits (front Δ captures ++ (cns (getD s (p + 1) 0) ∷ []))) 5 p) (Reader′._>>=_ (statement Σ Θ f depth (front Δ captures ++ (cns (getD s (p + 1) 0) ∷ []))) (λ u. Reader′.give (new (getD s (p + 1) 0) captures cs u))))) ≡ shown s r)
                   → forget (FirstFault.aNew Σ Θ (statement Σ Θ f) p depth Δ (p + 1) (drop (p + 1) s)) ≡ shown s r
               go (newGoes {captures = captures} y z v i u) Σ Θ f a b Δ k w t g =
                   with′ (u Σ Θ (statement Σ Θ f) depth Δ a (holds-length env full width narrow Δ k)) λ m.
@@ -217,11 +217,8 @@ module _ (image sigs labels s : List ℕ) (depth : ℕ) where
             unfolding after need
             new-on z i out g r t = after-clauses r (λ Σ Θ Δ f S a b k l w u.
                 with′ (shown-on s (clauses Σ Θ (statement Σ Θ f) named depth [] (back Δ captures) 0 S (p + 1 + 1 + 1 + 1) (drop (p + 1 + 1 + 1 + 1) s)) x on u y) λ m.
-                rw (
-                  m .1,
-                  le-leb (length (front Δ captures ++ (cns (getD s (p + 1) 0) ∷ []))) widest (rw (rest-length Δ (cns (getD s (p + 1) 0)) k l) (not-32 (width - captures) (omega arith) z)),
-                  forget-after (statement Σ Θ f depth (front Δ captures ++ (cns (getD s (p + 1) 0) ∷ [])) on (drop on s)) (λ v. new (getD s (p + 1) 0) captures (m .0) v),
-                )
+                rw (m .1, le-leb (length (front Δ captures ++ (cns (getD s (p + 1) 0) ∷ []))) widest (rw (rest-length Δ (cns (getD s (p + 1) 0)) k l) (not-32 (width - captures) (omega arith) z)),
+                  forget-after (statement Σ Θ f depth (front Δ captures ++ (cns (getD s (p + 1) 0) ∷ [])) on (drop on s)) (λ v. new (getD s (p + 1) 0) captures (m .0) v))
                 (t .is Σ Θ (front Δ captures ++ (cns (getD s (p + 1) 0) ∷ [])) f a b (g (front Δ captures) (cns (getD s (p + 1) 0)) (holds-front env full width narrow Δ k captures l) refl) (omega arith)))
               where
                 not-32 : (n : ℕ) → n ≤ 32 → (n ≡ 32 → ⊥) → suc n ≤ 32

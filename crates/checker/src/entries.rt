@@ -1,5 +1,6 @@
 // An environment: an array of types, two bytes each, and its width beside it.
 use crate::Walk;
+use crate::types::Type;
 ghost use mathlib.Core.Path.{_≡_};
 ghost use Prim.Native.Nat.{ℕ, _+_, _≤_, _<_};
 ghost use mathlib.Core.List.{List, [], _∷_, _++_, map, flatMap};
@@ -56,13 +57,13 @@ pub(crate) fn put_entries(
 }
 
 // One more entry.
-pub(crate) fn push(env: [[u8; 2]; 32], width: usize, kind: u8, number: u8) -> [[u8; 2]; 32]
+pub(crate) fn push(env: [[u8; 2]; 32], width: usize, entry: Type) -> [[u8; 2]; 32]
     requires { ⌜ width < 32 ⌝ }
-    ensures entries { λ r. ⌜ take (width + 1) r ≡ take width env ++ ((kind ∷ number ∷ []) ∷ []) ⌝ }
-    ensures { λ r. ⌜ ((Δ : Environment) (t : Ty) → Holds env width Δ → typeBytes t ≡ kind ∷ number ∷ [] → Holds r (width + 1) (Δ ++ (t ∷ []))) ⌝ }
+    ensures entries { λ r. ⌜ take (width + 1) r ≡ take width env ++ ((entry .kind ∷ entry .number ∷ []) ∷ []) ⌝ }
+    ensures { λ r. ⌜ ((Δ : Environment) (t : Ty) → Holds env width Δ → typeBytes t ≡ entry .kind ∷ entry .number ∷ [] → Holds r (width + 1) (Δ ++ (t ∷ []))) ⌝ }
 {
     let mut out = env;
-    out[width] = [kind, number];
+    out[width] = [entry.kind, entry.number];
     out
 }
 
@@ -138,7 +139,7 @@ pub(crate) fn ext_at(s: &[u8], env: [[u8; 2]; 32], width: usize, at: usize) -> W
         return Walk::Bad(7, at);
     }
     let e = env[position];
-    if e[0] != 2 {
+    if e[0] != Type::EXT {
         return Walk::Bad(8, at);
     }
     Walk::On(at + 1)

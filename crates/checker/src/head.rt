@@ -1,5 +1,6 @@
 // The head of an image: types, signatures, labels.
 use crate::Walk;
+use crate::types::Type;
 ghost use mathlib.Core.Path.{_≡_};
 ghost use Prim.Native.Nat.{_≤_};
 ghost use lib.ListN.{length, drop};
@@ -19,7 +20,7 @@ pub(crate) fn read_type(s: &[u8], sigs: usize, at: usize) -> Walk
         return Walk::Bad(3, at);
     }
     let kind = s[at];
-    if 2 < kind {
+    if Type::EXT < kind {
         return Walk::Bad(6, at);
     }
     let next = at + 1;
@@ -27,7 +28,7 @@ pub(crate) fn read_type(s: &[u8], sigs: usize, at: usize) -> Walk
         return Walk::Bad(3, next);
     }
     let number = s[next] as usize;
-    if kind == 2 {
+    if kind == Type::EXT {
         if number != 0 {
             return Walk::Bad(6, next);
         }
@@ -165,7 +166,7 @@ pub(crate) fn read_entry_type(s: &[u8], sigs: usize, at: usize) -> Walk
     let kind = s[at];
     match read_type(s, sigs, at) {
         Walk::On(next) => {
-            if kind != 2 {
+            if kind != Type::EXT {
                 return Walk::Bad(8, at);
             }
             Walk::On(next)

@@ -7,6 +7,7 @@ mod entries;
 mod forms;
 mod head;
 mod statements;
+mod types;
 mod whole;
 
 // Where a walk over a region goes on, or the number and offset of its first fault.

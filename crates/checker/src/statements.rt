@@ -5,10 +5,10 @@ ghost use lib.ListN.{length, getD, take, drop};
 ghost use Rattle.checker.specs.Laid.{Known, SignatureAt, signatureBytes, parametersBytes};
 ghost use Rattle.checker.specs.Shown.{forget, shown, Within};
 ghost use Rattle.checker.specs.Statements.{StatementIs, RegionIs, ClausesAre, BareAre, ExternIs, GainIs};
+use crate::Walk;
 use crate::Name;
 use crate::Step;
 use crate::Takes;
-use crate::Walk;
 use crate::entries::arguments;
 use crate::entries::gather;
 use crate::entries::push;
@@ -22,6 +22,7 @@ use crate::forms::new_head;
 use crate::forms::operation;
 use crate::forms::substitute_head;
 use crate::forms::switch_head;
+use crate::types::Type;
 
 // The environment with an integer more, where one is gained and there is a place for it.
 fn gain(env: [[u8; 2]; 32], width: usize, gained: usize) -> [[u8; 2]; 32]
@@ -34,20 +35,12 @@ fn gain(env: [[u8; 2]; 32], width: usize, gained: usize) -> [[u8; 2]; 32]
     if width == 32 {
         return env;
     }
-    push(env, width, 2, 0)
+    let entry = Type::ext();
+    push(env, width, entry)
 }
 
 // The statement at `at` of the region s, `depth` clauses deep, with an environment of `width` entries.
-pub(crate) fn stmt(
-    image: &[u8],
-    sigs: &[usize],
-    labels: &[usize],
-    s: &[u8],
-    env: [[u8; 2]; 32],
-    width: usize,
-    depth: usize,
-    at: usize,
-) -> Walk
+pub(crate) fn stmt(image: &[u8], sigs: &[usize], labels: &[usize], s: &[u8], env: [[u8; 2]; 32], width: usize, depth: usize, at: usize) -> Walk
     requires { ⌜ (at ≤ length (now s)) × ((width ≤ 32) × ((depth ≤ 48) × ((length (now image) ≤ 16384) × ((Known signatureBytes (now image) (now sigs) × Known parametersBytes (now image) (now labels)))))) ⌝ }
     ensures within { λ r. ⌜ Within at (now (s .entry)) r ⌝ }
     ensures { λ r. ⌜ StatementIs (now (image .entry)) (now (sigs .entry)) (now (labels .entry)) (now (s .entry)) env width depth at r ⌝ }
@@ -81,7 +74,8 @@ pub(crate) fn stmt(
             3 => match let_head(image, sigs, s, e, w, p) {
                 Step::To(on, kept) => {
                     let t = s[p + 1];
-                    let made = push(e, kept, 0, t);
+                    let entry = Type::prd(t);
+                    let made = push(e, kept, entry);
                     e = made;
                     w = kept + 1;
                     p = on;
@@ -93,25 +87,14 @@ pub(crate) fn stmt(
             4 => match new_head(image, sigs, s, w, p) {
                 Step::To(sig, captures) => {
                     let kept = w - captures;
-                    match clauses(
-                        image,
-                        sigs,
-                        labels,
-                        s,
-                        e,
-                        0,
-                        kept,
-                        captures,
-                        depth,
-                        p + 1 + 1 + 1 + 1,
-                        sig,
-                    ) {
+                    match clauses(image, sigs, labels, s, e, 0, kept, captures, depth, p + 1 + 1 + 1 + 1, sig) {
                         Walk::On(on) => {
                             if kept == 32 {
                                 return Walk::Bad(5, p);
                             }
                             let t = s[p + 1];
-                            let made = push(e, kept, 1, t);
+                            let entry = Type::cns(t);
+                            let made = push(e, kept, entry);
                             e = made;
                             w = kept + 1;
                             p = on;
@@ -127,19 +110,7 @@ pub(crate) fn stmt(
             },
             5 => match switch_head(image, sigs, s, e, w, p) {
                 Name::Is(sig) => {
-                    return clauses(
-                        image,
-                        sigs,
-                        labels,
-                        s,
-                        e,
-                        w - 1,
-                        0,
-                        0,
-                        depth,
-                        p + 1 + 1 + 1,
-                        sig,
-                    );
+                    return clauses(image, sigs, labels, s, e, w - 1, 0, 0, depth, p + 1 + 1 + 1, sig);
                 }
                 Name::Not(n, o) => {
                     return Walk::Bad(n, o);
@@ -156,16 +127,7 @@ pub(crate) fn stmt(
 }
 
 // extern, of which the operation stands at `at`.
-fn extern_(
-    image: &[u8],
-    sigs: &[usize],
-    labels: &[usize],
-    s: &[u8],
-    env: [[u8; 2]; 32],
-    width: usize,
-    depth: usize,
-    at: usize,
-) -> Walk
+fn extern_(image: &[u8], sigs: &[usize], labels: &[usize], s: &[u8], env: [[u8; 2]; 32], width: usize, depth: usize, at: usize) -> Walk
     requires { ⌜ (at ≤ length (now s)) × ((width ≤ 32) × ((depth ≤ 48) × ((length (now image) ≤ 16384) × ((Known signatureBytes (now image) (now sigs) × Known parametersBytes (now image) (now labels)))))) ⌝ }
     ensures within { λ r. ⌜ Within at (now (s .entry)) r ⌝ }
     ensures { λ r. ⌜ ExternIs (now (image .entry)) (now (sigs .entry)) (now (labels .entry)) (now (s .entry)) env width depth at r ⌝ }
@@ -183,17 +145,7 @@ fn extern_(
 }
 
 // `many` clauses without symbol byte from `at` on, each with the environment of `width` entries.
-fn bare_clauses(
-    image: &[u8],
-    sigs: &[usize],
-    labels: &[usize],
-    s: &[u8],
-    env: [[u8; 2]; 32],
-    width: usize,
-    depth: usize,
-    at: usize,
-    many: usize,
-) -> Walk
+fn bare_clauses(image: &[u8], sigs: &[usize], labels: &[usize], s: &[u8], env: [[u8; 2]; 32], width: usize, depth: usize, at: usize, many: usize) -> Walk
     requires { ⌜ (at ≤ length (now s)) × ((width ≤ 33) × ((depth ≤ 48) × ((length (now image) ≤ 16384) × ((Known signatureBytes (now image) (now sigs) × Known parametersBytes (now image) (now labels)))))) ⌝ }
     ensures within { λ r. ⌜ Within at (now (s .entry)) r ⌝ }
     ensures { λ r. ⌜ BareAre (now (image .entry)) (now (sigs .entry)) (now (labels .entry)) (now (s .entry)) env width depth many at r ⌝ }
@@ -221,19 +173,7 @@ fn bare_clauses(
 }
 
 // The clauses from `at` on, one for each symbol of the signature at `sig`: each starts with the first `before` entries, its symbol's parameters, and the `behind` entries from `from` on.
-fn clauses(
-    image: &[u8],
-    sigs: &[usize],
-    labels: &[usize],
-    s: &[u8],
-    env: [[u8; 2]; 32],
-    before: usize,
-    from: usize,
-    behind: usize,
-    depth: usize,
-    at: usize,
-    sig: usize,
-) -> Walk
+fn clauses(image: &[u8], sigs: &[usize], labels: &[usize], s: &[u8], env: [[u8; 2]; 32], before: usize, from: usize, behind: usize, depth: usize, at: usize, sig: usize) -> Walk
     requires { ⌜ (at ≤ length (now s)) × ((before ≤ 32) × ((from + behind ≤ 32) × ((depth ≤ 48) × ((length (now image) ≤ 16384) × ((SignatureAt (now image) sig) × ((Known signatureBytes (now image) (now sigs) × Known parametersBytes (now image) (now labels)))))))) ⌝ }
     ensures within { λ r. ⌜ Within at (now (s .entry)) r ⌝ }
     ensures { λ r. ⌜ ClausesAre (now (image .entry)) (now (sigs .entry)) (now (labels .entry)) (now (s .entry)) env before from behind depth sig at r ⌝ }
@@ -254,16 +194,7 @@ fn clauses(
                 }
                 let types = put_types(env, before, image, list + 1, n);
                 let inner = put_entries(types, before + n, env, from, behind);
-                match region(
-                    image,
-                    sigs,
-                    labels,
-                    s,
-                    inner,
-                    before + n + behind,
-                    depth + 1,
-                    next,
-                ) {
+                match region(image, sigs, labels, s, inner, before + n + behind, depth + 1, next) {
                     Walk::On(on) => {
                         p = on;
                     }
@@ -283,16 +214,7 @@ fn clauses(
 }
 
 // The region of which the length field stands at `at`, filled by one statement.
-pub(crate) fn region(
-    image: &[u8],
-    sigs: &[usize],
-    labels: &[usize],
-    s: &[u8],
-    env: [[u8; 2]; 32],
-    width: usize,
-    depth: usize,
-    at: usize,
-) -> Walk
+pub(crate) fn region(image: &[u8], sigs: &[usize], labels: &[usize], s: &[u8], env: [[u8; 2]; 32], width: usize, depth: usize, at: usize) -> Walk
     requires { ⌜ (at ≤ length (now s)) × ((width ≤ 32) × ((depth ≤ 48) × ((length (now image) ≤ 16384) × ((Known signatureBytes (now image) (now sigs) × Known parametersBytes (now image) (now labels)))))) ⌝ }
     ensures within { λ r. ⌜ Within at (now (s .entry)) r ⌝ }
     ensures { λ r. ⌜ RegionIs (now (image .entry)) (now (sigs .entry)) (now (labels .entry)) (now (s .entry)) env width depth at r ⌝ }

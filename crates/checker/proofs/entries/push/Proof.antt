@@ -15,7 +15,7 @@ array-set-from-out c = search needs
 
 returns : tie.Need-returns
 returns c = let l : c .args .width < length (c .args .env) = omega arith in
-    let p = law.pushed (c .args .env) (c .args .width) (c .args .kind ∷ c .args .number ∷ []) l in (p, law.push-holds (c .args .env) _ (c .args .width) (c .args .kind ∷ c .args .number ∷ []) p)
+    let p = law.pushed (c .args .env) (c .args .width) (c .args .entry .kind ∷ c .args .entry .number ∷ []) l in (p, law.push-holds (c .args .env) _ (c .args .width) (c .args .entry .kind ∷ c .args .entry .number ∷ []) p)
 
 pub push-spec : {M : Type 1} → statement M
 push-spec = tie.close (tie.spec mul-out array-set-from-out returns)

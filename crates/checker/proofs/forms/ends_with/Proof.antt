@@ -6,27 +6,21 @@ use Rattle.checker.proofs.forms.ends_with.Reads as reads
 use Rattle.checker.proofs.forms.ends_with.Lts as lts
 use Rattle.checker.proofs.entries.same_types.Reads as same-types-reads
 
--- src/forms.rt:68:13
 shared-slice-read-n : tie.Need-shared-slice-read-n
 shared-slice-read-n c = omega (arith, law.count-inside _ _ (c .before .before .pre .1))
 
--- src/forms.rt:68:13
 cast-n : tie.Need-cast-n
 cast-n c = omega (arith, c .shared-slice-known2 .given (c .before .before .args .list))
 
--- src/forms.rt:70:9
 returns : tie.Need-returns
 returns c = (law.ends-not _ _ (omega arith) _ (c .before .before .before .pre .0) _ (c .if1 .taken), λ z. absurd (law.false-true z))
 
--- src/forms.rt:72:39
 add-same-types : tie.Need-add-same-types
 add-same-types c = omega (arith, law.count-inside _ _ (c .before .before .before .pre .1))
 
--- src/forms.rt:72:5
 same-types-requires : tie.Need-same-types-requires
 same-types-requires c κs = omega (arith, law.count-inside _ _ (c .before .before .before .pre .1))
 
--- src/forms.rt:63:1
 returns-2 : tie.Need-returns-2
 returns-2 c = (law.ends-same _ _ (omega arith) _ (c .before .before .before .before .pre .0) _ (c .before .if1 .left) _ (c .same-types .ensures), λ z. c .before .if1 .left)
 

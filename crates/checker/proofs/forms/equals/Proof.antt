@@ -6,27 +6,21 @@ use Rattle.checker.proofs.forms.equals.Reads as reads
 use Rattle.checker.proofs.forms.equals.Lts as lts
 use Rattle.checker.proofs.entries.same_types.Reads as same-types-reads
 
--- src/forms.rt:53:13
 shared-slice-read-n : tie.Need-shared-slice-read-n
 shared-slice-read-n c = omega (arith, law.count-inside _ _ (c .before .before .pre .1))
 
--- src/forms.rt:53:13
 cast-n : tie.Need-cast-n
 cast-n c = omega (arith, c .shared-slice-known2 .given (c .before .before .args .list))
 
--- src/forms.rt:55:9
 returns : tie.Need-returns
 returns c = law.equals-not _ _ (omega arith) _ (c .before .before .before .pre .0) _ (c .if1 .taken)
 
--- src/forms.rt:57:31
 add-same-types : tie.Need-add-same-types
 add-same-types c = omega (arith, law.count-inside _ _ (c .before .before .before .pre .1))
 
--- src/forms.rt:57:5
 same-types-requires : tie.Need-same-types-requires
 same-types-requires c κs = omega (arith, law.count-inside _ _ (c .before .before .before .pre .1))
 
--- src/forms.rt:49:1
 returns-2 : tie.Need-returns-2
 returns-2 c = law.equals-same _ _ (omega arith) _ (c .before .before .before .before .pre .0) _ (c .before .if1 .left) _ (c .same-types .ensures)
 

@@ -6,27 +6,21 @@ use Rattle.checker.proofs.forms.expect_byte.Tie as tie
 use Rattle.checker.proofs.forms.expect_byte.Reads as reads
 use Rattle.checker.proofs.forms.expect_byte.Lts as lts
 
--- src/forms.rt:45:9
 returns : tie.Need-returns
 returns c = (tt, law.expect-end _ _ _ (c .before .pre) (c .if1 .taken))
 
--- src/forms.rt:47:8
 shared-slice-read-if2 : tie.Need-shared-slice-read-if2
 shared-slice-read-if2 c = search needs
 
--- src/forms.rt:47:8
 cast-if2 : tie.Need-cast-if2
 cast-if2 c = omega (arith, c .shared-slice-known .given (c .before .before .args .at))
 
--- src/forms.rt:48:9
 returns-2 : tie.Need-returns-2
 returns-2 c = (tt, law.expect-other _ _ _ (c .before .before .before .pre) (c .before .before .if1 .left) (c .if2 .taken))
 
--- src/forms.rt:50:14
 add-t4 : tie.Need-add-t4
 add-t4 c = search needs
 
--- src/forms.rt:39:1
 returns-3 : tie.Need-returns-3
 returns-3 c = (omega arith, law.expect-same _ _ _ (c .before .before .before .pre) (c .before .before .if1 .left) (c .if2 .left))
 

@@ -13,103 +13,78 @@ use Rattle.checker.proofs.forms.equals.Reads as equals-reads
 use Rattle.checker.proofs.forms.name.Reads as name-reads
 use Rattle.checker.proofs.forms.wide.Reads as wide-reads
 
--- src/forms.rt:242:9
 returns : tie.Need-returns
 returns c = (tt, heads.invoke-none _ _ _ _ (omega arith) _ (c .before .before .before .before .pre .1 .0) _ (c .if1 .taken))
 
--- src/forms.rt:244:20
 sub-last : tie.Need-sub-last
 sub-last c = search needs
 
--- src/forms.rt:244:16
 mul-last : tie.Need-mul-last
 mul-last c = search needs
 
--- src/forms.rt:244:16
 array-copy-out-last : tie.Need-array-copy-out-last
 array-copy-out-last c = search needs
 
--- src/forms.rt:245:8
 array-read-if2 : tie.Need-array-read-if2
 array-read-if2 c = search needs
 
--- src/forms.rt:246:9
 returns-2 : tie.Need-returns-2
 returns-2 c = (tt, heads.invoke-kind _ _ _ _ (omega arith) _ (c .before .before .before .before .before .before .pre .1 .0) _ (omega arith) (c .if2 .taken))
 
--- src/forms.rt:248:18
 array-read-wide : tie.Need-array-read-wide
 array-read-wide c = search needs
 
--- src/forms.rt:248:9
 wide-requires : tie.Need-wide-requires
 wide-requires c κs = search needs
 
--- src/forms.rt:250:9
 returns-3 : tie.Need-returns-3
 returns-3 c = (tt, heads.invoke-signature _ _ _ _ (omega arith) _ (c .before .before .before .before .before .before .before .before .pre .1 .0) _ (omega arith) (c .before .before .if2 .left) _ (c .before .wide .ensures) (c .if3 .taken))
 
--- src/forms.rt:252:15
 mul-sig : tie.Need-mul-sig
 mul-sig c = search needs
 
--- src/forms.rt:252:15
 shared-slice-read-sig : tie.Need-shared-slice-read-sig
 shared-slice-read-sig c = search needs
 
--- src/forms.rt:253:19
 shared-slice-read-name : tie.Need-shared-slice-read-name
 shared-slice-read-name c = law.offset-inside (c .before .before .before .before .before .before .before .before .before .before .pre .1 .1 .1) _ (c .before .before .if3 .left)
 
--- src/forms.rt:253:19
 cast-name : tie.Need-cast-name
 cast-name c = omega (arith, c .shared-slice-known5 .given (getD (c .before .before .before .before .before .before .before .before .before .before .args .sigs .now) (c .before .before .before .wide .result) 0))
 
--- src/forms.rt:253:40
 add-name : tie.Need-add-name
 add-name c = search needs
 
--- src/forms.rt:253:11
 name-requires : tie.Need-name-requires
 name-requires c κs = omega arith
 
--- src/forms.rt:254:18
 enum-known-m : tie.Need-enum-known-m
 enum-known-m c = search needs
 
--- src/forms.rt:255:17
 symbol-at-requires : tie.Need-symbol-at-requires
 symbol-at-requires c κs = (c .before .before .before .before .before .before .before .before .before .before .before .before .before .before .pre .1 .1 .0, law.offset-within (c .before .before .before .before .before .before .before .before .before .before .before .before .before .before .pre .1 .1 .1) _ (c .before .before .before .before .before .before .if3 .left))
 
--- src/forms.rt:256:35
 sub-equals : tie.Need-sub-equals
 sub-equals c = search needs
 
--- src/forms.rt:256:16
 equals-requires : tie.Need-equals-requires
 equals-requires c κs = (omega arith, law.symbol-list _ _ _ _ (law.signature-at (c .before .before .before .before .before .before .before .before .before .before .before .before .before .before .before .pre .1 .1 .1) _ (c .before .before .before .before .before .before .before .if3 .left)) (law.name-is _ _ _ _ (c .before .before .before .before .name .ensures) _ (c .before .before .m .given .1) .2) (c .symbol-at .ensures .1))
 
--- src/forms.rt:257:33
 add-t33 : tie.Need-add-t33
 add-t33 c = omega arith
 
--- src/forms.rt:257:33
 add-t34 : tie.Need-add-t34
 add-t34 c = omega (arith, law.name-is _ _ _ _ (c .before .before .before .before .before .before .name .ensures) _ (c .before .before .before .before .m .given .1))
 
--- src/forms.rt:257:17
 returns-4 : tie.Need-returns-4
 returns-4 c = (omega (arith, law.name-is _ _ _ _ (c .before .before .before .before .before .before .name .ensures) _ (c .before .before .before .before .m .given .1)), heads.invoke-same _ _ _ _ (omega arith) _ (c .before .before .before .before .before .before .before .before .before .before .before .before .before .before .before .before .before .pre .1 .0) _ (omega arith) (c .before .before .before .before .before .before .before .before .before .before .before .if2 .left) _ (c .before .before .before .before .before .before .before .before .before .before .wide .ensures) (c .before .before .before .before .before .before .before .before .before .if3 .left) _ (c .before .before .before .before .before .before .name .ensures) _ (c .before .before .before .before .m .given .1) _ (c .before .before .symbol-at .ensures .1) _ (c .before .equals .ensures) (c .if4 .taken))
 
--- src/forms.rt:261:19
 enum-known-n : tie.Need-enum-known-n
 enum-known-n c = search needs
 
--- src/forms.rt:236:1
 returns-5 : tie.Need-returns-5
 returns-5 c = (tt, heads.invoke-other _ _ _ _ (omega arith) _ (c .before .before .before .before .before .before .before .before .before .before .before .before .before .before .before .before .before .pre .1 .0) _ (omega arith) (c .before .before .before .before .before .before .before .before .before .before .before .if2 .left) _ (c .before .before .before .before .before .before .before .before .before .before .wide .ensures) (c .before .before .before .before .before .before .before .before .before .if3 .left) _ (c .before .before .before .before .before .before .name .ensures) _ (c .before .before .before .before .m .given .1) _ (c .before .before .symbol-at .ensures .1) _ (c .before .equals .ensures) (c .if4 .left))
 
--- src/forms.rt:236:1
 returns-6 : tie.Need-returns-6
 returns-6 c = (tt, heads.invoke-symbol _ _ _ _ (omega arith) _ (c .before .before .before .before .before .before .before .before .before .before .before .before .before .before .pre .1 .0) _ (omega arith) (c .before .before .before .before .before .before .before .before .if2 .left) _ (c .before .before .before .before .before .before .before .wide .ensures) (c .before .before .before .before .before .before .if3 .left) _ (c .before .before .before .name .ensures) _ _ (c .before .n .given .1))
 

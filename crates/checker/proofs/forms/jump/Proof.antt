@@ -8,51 +8,39 @@ use Rattle.checker.proofs.forms.jump.Lts as lts
 use Rattle.checker.proofs.forms.equals.Reads as equals-reads
 use Rattle.checker.proofs.forms.name.Reads as name-reads
 
--- src/forms.rt:79:33
 add-name : tie.Need-add-name
 add-name c = omega arith
 
--- src/forms.rt:79:11
 name-requires : tie.Need-name-requires
 name-requires c κs = omega arith
 
--- src/forms.rt:80:18
 enum-known-l : tie.Need-enum-known-l
 enum-known-l c = search needs
 
--- src/forms.rt:81:42
 mul-equals : tie.Need-mul-equals
 mul-equals c = omega (arith, law.name-is _ _ _ _ (c .before .before .before .name .ensures) _ (c .before .l .given .1))
 
--- src/forms.rt:81:42
 shared-slice-read-equals : tie.Need-shared-slice-read-equals
 shared-slice-read-equals c = omega (arith, law.name-is _ _ _ _ (c .before .before .before .before .name .ensures) _ (c .before .before .l .given .1))
 
--- src/forms.rt:81:16
 equals-requires : tie.Need-equals-requires
 equals-requires c κs = (c .before .before .before .before .before .before .before .before .pre .1 .0, law.list-at (c .before .before .before .before .before .before .before .before .pre .1 .1) _ (omega (arith, law.name-is _ _ _ _ (c .before .before .before .before .name .ensures) _ (c .before .before .l .given .1))))
 
--- src/forms.rt:82:33
 add-t18 : tie.Need-add-t18
 add-t18 c = omega arith
 
--- src/forms.rt:82:33
 add-t19 : tie.Need-add-t19
 add-t19 c = omega (arith, law.name-is _ _ _ _ (c .before .before .before .before .before .before .name .ensures) _ (c .before .before .before .before .l .given .1))
 
--- src/forms.rt:82:17
 returns : tie.Need-returns
 returns c = (omega (arith, law.name-is _ _ _ _ (c .before .before .before .before .before .before .name .ensures) _ (c .before .before .before .before .l .given .1)), law.jump-same _ _ _ _ _ _ _ (c .before .before .before .before .before .before .name .ensures) _ (c .before .before .before .before .l .given .1) _ (c .before .equals .ensures) (c .if1 .taken))
 
--- src/forms.rt:86:19
 enum-known-n : tie.Need-enum-known-n
 enum-known-n c = search needs
 
--- src/forms.rt:74:1
 returns-2 : tie.Need-returns-2
 returns-2 c = (tt, law.jump-other _ _ _ _ _ _ _ (c .before .before .before .before .before .before .name .ensures) _ (c .before .before .before .before .l .given .1) _ (c .before .equals .ensures) (c .if1 .left))
 
--- src/forms.rt:74:1
 returns-3 : tie.Need-returns-3
 returns-3 c = (tt, law.jump-bad _ _ _ _ _ _ _ (c .before .before .before .name .ensures) _ _ (c .before .n .given .1))
 

@@ -6,35 +6,27 @@ use Rattle.checker.proofs.forms.last_is.Tie as tie
 use Rattle.checker.proofs.forms.last_is.Reads as reads
 use Rattle.checker.proofs.forms.last_is.Lts as lts
 
--- src/forms.rt:153:9
 returns : tie.Need-returns
 returns c = heads.last-none _ (omega arith) _ (c .before .pre) _ _ (c .if1 .taken)
 
--- src/forms.rt:155:20
 sub-last : tie.Need-sub-last
 sub-last c = search needs
 
--- src/forms.rt:155:16
 mul-last : tie.Need-mul-last
 mul-last c = search needs
 
--- src/forms.rt:155:16
 array-copy-out-last : tie.Need-array-copy-out-last
 array-copy-out-last c = search needs
 
--- src/forms.rt:156:8
 array-read-if2 : tie.Need-array-read-if2
 array-read-if2 c = search needs
 
--- src/forms.rt:157:9
 returns-2 : tie.Need-returns-2
 returns-2 c = heads.last-kind _ (omega arith) _ (c .before .before .before .pre) _ _ (omega arith) (c .if2 .taken)
 
--- src/forms.rt:159:5
 array-read-result : tie.Need-array-read-result
 array-read-result c = search needs
 
--- src/forms.rt:148:1
 returns-3 : tie.Need-returns-3
 returns-3 c = heads.last-number _ (omega arith) _ (c .before .before .before .pre) _ _ (omega arith) (c .if2 .left)
 

@@ -11,107 +11,81 @@ use Rattle.checker.proofs.entries.symbol_at.Reads as symbol-at-reads
 use Rattle.checker.proofs.forms.ends_with.Reads as ends-with-reads
 use Rattle.checker.proofs.forms.name.Reads as name-reads
 
--- src/forms.rt:97:31
 add-name : tie.Need-add-name
 add-name c = omega arith
 
--- src/forms.rt:97:11
 name-requires : tie.Need-name-requires
 name-requires c κs = omega arith
 
--- src/forms.rt:98:18
 enum-known-t : tie.Need-enum-known-t
 enum-known-t c = search needs
 
--- src/forms.rt:99:23
 mul-sig : tie.Need-mul-sig
 mul-sig c = omega (arith, law.name-is _ _ _ _ (c .before .before .before .name .ensures) _ (c .before .t .given .1))
 
--- src/forms.rt:99:23
 shared-slice-read-sig : tie.Need-shared-slice-read-sig
 shared-slice-read-sig c = omega (arith, law.name-is _ _ _ _ (c .before .before .before .before .name .ensures) _ (c .before .before .t .given .1))
 
--- src/forms.rt:100:27
 shared-slice-read-name : tie.Need-shared-slice-read-name
 shared-slice-read-name c = law.signature-inside _ _ (law.signature-at (c .before .before .before .before .before .before .before .before .before .pre .1 .1 .1) _ (omega (arith, law.name-is _ _ _ _ (c .before .before .before .before .before .name .ensures) _ (c .before .before .before .t .given .1))))
 
--- src/forms.rt:100:27
 cast-name : tie.Need-cast-name
 cast-name c = omega (arith, c .shared-slice-known5 .given (getD (c .before .before .before .before .before .before .before .before .before .args .sigs .now) (c .before .before .before .t .given .0 .0) 0))
 
--- src/forms.rt:100:48
 add-name-2 : tie.Need-add-name-2
 add-name-2 c = omega arith
 
--- src/forms.rt:100:48
 add-name-3 : tie.Need-add-name-3
 add-name-3 c = omega (arith, law.name-is _ _ _ _ (c .before .before .before .before .before .name .ensures) _ (c .before .before .before .t .given .1))
 
--- src/forms.rt:100:19
 name-requires-2 : tie.Need-name-requires-2
 name-requires-2 c κs = omega (arith, law.name-is _ _ _ _ (c .before .before .before .before .before .name .ensures) _ (c .before .before .before .t .given .1))
 
--- src/forms.rt:101:26
 enum-known-m : tie.Need-enum-known-m
 enum-known-m c = search needs
 
--- src/forms.rt:102:25
 symbol-at-requires : tie.Need-symbol-at-requires
 symbol-at-requires c κs = (c .before .before .before .before .before .before .before .before .before .before .before .before .before .pre .1 .1 .0, law.offset-within (c .before .before .before .before .before .before .before .before .before .before .before .before .before .pre .1 .1 .1) _ (omega (arith, law.name-is _ _ _ _ (c .before .before .before .before .before .before .before .before .before .name .ensures) _ (c .before .before .before .before .before .before .before .t .given .1))))
 
--- src/forms.rt:103:25
 ends-with-requires : tie.Need-ends-with-requires
 ends-with-requires c κs = (c .before .before .before .before .before .before .before .before .before .before .before .before .before .before .pre .1 .0, law.symbol-list _ _ _ _ (law.signature-at (c .before .before .before .before .before .before .before .before .before .before .before .before .before .before .pre .1 .1 .1) _ (omega (arith, law.name-is _ _ _ _ (c .before .before .before .before .before .before .before .before .before .before .name .ensures) _ (c .before .before .before .before .before .before .before .before .t .given .1)))) (law.name-is _ _ _ _ (c .before .before .before .before .name2 .ensures) _ (c .before .before .m .given .1) .2) (c .symbol-at .ensures .1))
 
--- src/forms.rt:104:25
 returns : tie.Need-returns
 returns c = law.let-other _ _ _ _ (omega arith) _ (c .before .before .before .before .before .before .before .before .before .before .before .before .before .before .before .before .pre .1 .0) _ _ (c .before .before .before .before .before .before .before .before .before .before .before .before .name .ensures) _ (c .before .before .before .before .before .before .before .before .before .before .t .given .1) _ (c .before .before .before .before .before .before .name2 .ensures) _ (c .before .before .before .before .m .given .1) _ (c .before .before .symbol-at .ensures .1) _ (c .before .ends-with .ensures .0) (not-true _ (c .if1 .taken))
 
--- src/forms.rt:106:40
 shared-slice-read-kept : tie.Need-shared-slice-read-kept
 shared-slice-read-kept c = law.list-inside _ _ (law.symbol-list _ _ _ _ (law.signature-at (c .before .before .before .before .before .before .before .before .before .before .before .before .before .before .before .before .before .pre .1 .1 .1) _ (omega (arith, law.name-is _ _ _ _ (c .before .before .before .before .before .before .before .before .before .before .before .before .before .name .ensures) _ (c .before .before .before .before .before .before .before .before .before .before .before .t .given .1)))) (law.name-is _ _ _ _ (c .before .before .before .before .before .before .before .name2 .ensures) _ (c .before .before .before .before .before .m .given .1) .2) (c .before .before .before .symbol-at .ensures .1))
 
--- src/forms.rt:106:40
 cast-kept : tie.Need-cast-kept
 cast-kept c = omega (arith, c .shared-slice-known6 .given (c .before .before .before .symbol-at .result))
 
--- src/forms.rt:106:32
 sub-kept : tie.Need-sub-kept
 sub-kept c = c .before .before .ends-with .ensures .1 (not-false _ (c .before .if1 .left))
 
--- src/forms.rt:108:25
 returns-2 : tie.Need-returns-2
 returns-2 c = law.let-wide _ _ _ _ (omega arith) _ (c .before .before .before .before .before .before .before .before .before .before .before .before .before .before .before .before .before .before .pre .1 .0) _ _ (c .before .before .before .before .before .before .before .before .before .before .before .before .before .before .name .ensures) _ (c .before .before .before .before .before .before .before .before .before .before .before .before .t .given .1) _ (c .before .before .before .before .before .before .before .before .name2 .ensures) _ (c .before .before .before .before .before .before .m .given .1) _ (c .before .before .before .before .symbol-at .ensures .1) _ (c .before .before .before .ends-with .ensures .0) (not-false _ (c .before .before .if1 .left)) (c .before .before .before .ends-with .ensures .1 (not-false _ (c .before .before .if1 .left))) (c .if2 .taken)
 
--- src/forms.rt:110:30
 add-t32 : tie.Need-add-t32
 add-t32 c = omega arith
 
--- src/forms.rt:110:30
 add-t33 : tie.Need-add-t33
 add-t33 c = omega (arith, law.name-is _ _ _ _ (c .before .before .before .before .before .before .before .before .before .before .before .before .before .before .name .ensures) _ (c .before .before .before .before .before .before .before .before .before .before .before .before .t .given .1))
 
--- src/forms.rt:110:30
 add-t34 : tie.Need-add-t34
 add-t34 c = omega (arith, law.name-is _ _ _ _ (c .before .before .before .before .before .before .before .before .name2 .ensures) _ (c .before .before .before .before .before .before .m .given .1))
 
--- src/forms.rt:112:27
 enum-known-n : tie.Need-enum-known-n
 enum-known-n c = search needs
 
--- src/forms.rt:115:19
 enum-known-n-2 : tie.Need-enum-known-n-2
 enum-known-n-2 c = search needs
 
--- src/forms.rt:93:1
 returns-3 : tie.Need-returns-3
 returns-3 c = law.let-goes _ _ _ _ (omega arith) _ (c .before .before .before .before .before .before .before .before .before .before .before .before .before .before .before .before .before .before .pre .1 .0) _ _ (c .before .before .before .before .before .before .before .before .before .before .before .before .before .before .name .ensures) _ (c .before .before .before .before .before .before .before .before .before .before .before .before .t .given .1) _ (c .before .before .before .before .before .before .before .before .name2 .ensures) _ (c .before .before .before .before .before .before .m .given .1) _ (c .before .before .before .before .symbol-at .ensures .1) _ (c .before .before .before .ends-with .ensures .0) (not-false _ (c .before .before .if1 .left)) (c .before .before .before .ends-with .ensures .1 (not-false _ (c .before .before .if1 .left))) (c .if2 .left)
 
--- src/forms.rt:93:1
 returns-4 : tie.Need-returns-4
 returns-4 c = law.let-symbol _ _ _ _ (omega arith) _ (c .before .before .before .before .before .before .before .before .before .before .before .before .before .pre .1 .0) _ _ (c .before .before .before .before .before .before .before .before .before .name .ensures) _ (c .before .before .before .before .before .before .before .t .given .1) _ (c .before .before .before .name2 .ensures) _ _ (c .before .n .given .1)
 
--- src/forms.rt:93:1
 returns-5 : tie.Need-returns-5
 returns-5 c = law.let-signature _ _ _ _ (omega arith) _ (c .before .before .before .before .before .before .before .pre .1 .0) _ _ (c .before .before .before .name .ensures) _ _ (c .before .n2 .given .1)
 

@@ -7,23 +7,18 @@ use Rattle.checker.proofs.forms.name.Tie as tie
 use Rattle.checker.proofs.forms.name.Reads as reads
 use Rattle.checker.proofs.forms.name.Lts as lts
 
--- src/forms.rt:24:9
 returns : tie.Need-returns
 returns c = isEnded (c .if1 .taken)
 
--- src/forms.rt:26:13
 shared-slice-read-i : tie.Need-shared-slice-read-i
 shared-slice-read-i c = search needs
 
--- src/forms.rt:26:13
 cast-i : tie.Need-cast-i
 cast-i c = omega (arith, c .shared-slice-known .given (c .before .before .args .at))
 
--- src/forms.rt:28:9
 returns-2 : tie.Need-returns-2
 returns-2 c = isUnknown (omega arith) (c .if2 .taken)
 
--- src/forms.rt:19:1
 returns-3 : tie.Need-returns-3
 returns-3 c = isNamed (omega arith) refl (c .if2 .left)
 

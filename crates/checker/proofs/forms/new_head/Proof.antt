@@ -11,87 +11,66 @@ use Rattle.checker.proofs.forms.new_head.Lts as lts
 use Rattle.checker.proofs.forms.expect_byte.Reads as expect-byte-reads
 use Rattle.checker.proofs.forms.name.Reads as name-reads
 
--- src/forms.rt:127:31
 add-name : tie.Need-add-name
 add-name c = omega arith
 
--- src/forms.rt:127:11
 name-requires : tie.Need-name-requires
 name-requires c κs = omega arith
 
--- src/forms.rt:128:18
 enum-known-t : tie.Need-enum-known-t
 enum-known-t c = search needs
 
--- src/forms.rt:129:23
 mul-sig : tie.Need-mul-sig
 mul-sig c = omega (arith, law.name-is _ _ _ _ (c .before .before .before .name .ensures) _ (c .before .t .given .1))
 
--- src/forms.rt:129:23
 shared-slice-read-sig : tie.Need-shared-slice-read-sig
 shared-slice-read-sig c = omega (arith, law.name-is _ _ _ _ (c .before .before .before .before .name .ensures) _ (c .before .before .t .given .1))
 
--- src/forms.rt:130:25
 add-place : tie.Need-add-place
 add-place c = omega arith
 
--- src/forms.rt:130:25
 add-place-2 : tie.Need-add-place-2
 add-place-2 c = omega (arith, law.name-is _ _ _ _ (c .before .before .before .before .name .ensures) _ (c .before .before .t .given .1))
 
--- src/forms.rt:132:17
 returns : tie.Need-returns
 returns c = heads.new-end _ _ _ _ _ _ (c .before .before .before .before .before .name .ensures) _ (c .before .before .before .t .given .1) (c .if1 .taken)
 
--- src/forms.rt:134:28
 shared-slice-read-captures : tie.Need-shared-slice-read-captures
 shared-slice-read-captures c = omega (arith, law.name-is _ _ _ _ (c .before .before .before .before .before .before .name .ensures) _ (c .before .before .before .before .t .given .1))
 
--- src/forms.rt:134:28
 cast-captures : tie.Need-cast-captures
 cast-captures c = omega (arith, c .shared-slice-known5 .given (c .before .before .before .before .before .before .before .before .before .before .args .at + 1 + 1))
 
--- src/forms.rt:136:17
 returns-2 : tie.Need-returns-2
 returns-2 c = heads.new-many _ _ _ _ _ _ (c .before .before .before .before .before .before .before .name .ensures) _ (c .before .before .before .before .before .t .given .1) (omega (arith, law.name-is _ _ _ _ (c .before .before .before .before .before .before .before .name .ensures) _ (c .before .before .before .before .before .t .given .1))) (c .if2 .taken)
 
--- src/forms.rt:138:34
 shared-slice-read-expect-byte : tie.Need-shared-slice-read-expect-byte
 shared-slice-read-expect-byte c = law.offset-inside (c .before .before .before .before .before .before .before .before .before .before .before .before .pre .1) _ (omega (arith, law.name-is _ _ _ _ (c .before .before .before .before .before .before .before .before .name .ensures) _ (c .before .before .before .before .before .before .t .given .1)))
 
--- src/forms.rt:138:34
 cast-expect-byte : tie.Need-cast-expect-byte
 cast-expect-byte c = omega (arith, c .shared-slice-known6 .given (getD (c .before .before .before .before .before .before .before .before .before .before .before .before .args .sigs .now) (c .before .before .before .before .before .before .t .given .0 .0) 0))
 
--- src/forms.rt:138:55
 add-expect-byte : tie.Need-add-expect-byte
 add-expect-byte c = omega (arith, law.name-is _ _ _ _ (c .before .before .before .before .before .before .before .before .name .ensures) _ (c .before .before .before .before .before .before .t .given .1))
 
--- src/forms.rt:138:19
 expect-byte-requires : tie.Need-expect-byte-requires
 expect-byte-requires c κs = omega (arith, law.name-is _ _ _ _ (c .before .before .before .before .before .before .before .before .name .ensures) _ (c .before .before .before .before .before .before .t .given .1))
 
--- src/forms.rt:139:26
 enum-known-next : tie.Need-enum-known-next
 enum-known-next c = search needs
 
--- src/forms.rt:140:27
 enum-known-n : tie.Need-enum-known-n
 enum-known-n c = search needs
 
--- src/forms.rt:143:19
 enum-known-n-2 : tie.Need-enum-known-n-2
 enum-known-n-2 c = search needs
 
--- src/forms.rt:123:1
 returns-3 : tie.Need-returns-3
 returns-3 c = heads.new-goes _ _ _ _ _ _ (c .before .before .before .before .before .before .before .before .before .before .before .before .name .ensures) _ (c .before .before .before .before .before .before .before .before .before .before .t .given .1) (omega (arith, law.name-is _ _ _ _ (c .before .before .before .before .before .before .before .before .before .before .before .before .name .ensures) _ (c .before .before .before .before .before .before .before .before .before .before .t .given .1))) (c .before .before .before .before .before .if2 .left) _ (c .before .before .before .expect-byte .ensures .1) (c .before .before .before .expect-byte .ensures .0) _ (c .before .next .given .1)
 
--- src/forms.rt:123:1
 returns-4 : tie.Need-returns-4
 returns-4 c = heads.new-count _ _ _ _ _ _ (c .before .before .before .before .before .before .before .before .before .before .before .before .name .ensures) _ (c .before .before .before .before .before .before .before .before .before .before .t .given .1) (omega (arith, law.name-is _ _ _ _ (c .before .before .before .before .before .before .before .before .before .before .before .before .name .ensures) _ (c .before .before .before .before .before .before .before .before .before .before .t .given .1))) (c .before .before .before .before .before .if2 .left) _ (c .before .before .before .expect-byte .ensures .1) (c .before .before .before .expect-byte .ensures .0) _ _ (c .before .n .given .1)
 
--- src/forms.rt:123:1
 returns-5 : tie.Need-returns-5
 returns-5 c = heads.new-signature _ _ _ _ _ _ (c .before .before .before .name .ensures) _ _ (c .before .n2 .given .1)
 

@@ -8,59 +8,45 @@ use Rattle.checker.proofs.forms.operation.Tie as tie
 use Rattle.checker.proofs.forms.operation.Reads as reads
 use Rattle.checker.proofs.forms.operation.Lts as lts
 
--- src/forms.rt:207:9
 returns : tie.Need-returns
 returns c = heads.operation-end _ _ (c .before .pre) (c .if1 .taken)
 
--- src/forms.rt:209:16
 shared-slice-read-code : tie.Need-shared-slice-read-code
 shared-slice-read-code c = search needs
 
--- src/forms.rt:210:16
 add-next : tie.Need-add-next
 add-next c = search needs
 
--- src/forms.rt:213:16
 sub-if2 : tie.Need-sub-if2
 sub-if2 c = search needs
 
--- src/forms.rt:214:17
 returns-2 : tie.Need-returns-2
 returns-2 c = heads.operation-short _ _ (c .before .before .before .before .pre) (c .before .before .before .if1 .left) (c .before .match .keys1) (c .if2 .taken)
 
--- src/forms.rt:216:26
 add-t10 : tie.Need-add-t10
 add-t10 c = search needs
 
--- src/forms.rt:202:1
 returns-3 : tie.Need-returns-3
 returns-3 c = heads.operation-literal _ _ (c .before .before .before .before .pre) (c .before .before .before .if1 .left) (c .before .match .keys1) (c .if2 .left)
 
--- src/forms.rt:202:1
 returns-4 : tie.Need-returns-4
 returns-4 c = heads.operation-plain _ _ (c .before .before .before .pre) (c .before .before .if1 .left) add 2 1 1 1 (c .match .keys2) refl refl refl (omega arith)
 
--- src/forms.rt:202:1
 returns-5 : tie.Need-returns-5
 returns-5 c = heads.operation-plain _ _ (c .before .before .before .pre) (c .before .before .if1 .left) sub 2 1 1 2 (c .match .keys3) refl refl refl (omega arith)
 
--- src/forms.rt:202:1
 returns-6 : tie.Need-returns-6
 returns-6 c = heads.operation-plain _ _ (c .before .before .before .pre) (c .before .before .if1 .left) mul 2 1 1 3 (c .match .keys4) refl refl refl (omega arith)
 
--- src/forms.rt:202:1
 returns-7 : tie.Need-returns-7
 returns-7 c = heads.operation-plain _ _ (c .before .before .before .pre) (c .before .before .if1 .left) ifz 1 2 0 4 (c .match .keys5) refl refl refl (omega arith)
 
--- src/forms.rt:202:1
 returns-8 : tie.Need-returns-8
 returns-8 c = heads.operation-plain _ _ (c .before .before .before .pre) (c .before .before .if1 .left) less 2 2 0 5 (c .match .keys6) refl refl refl (omega arith)
 
--- src/forms.rt:202:1
 returns-9 : tie.Need-returns-9
 returns-9 c = heads.operation-plain _ _ (c .before .before .before .pre) (c .before .before .if1 .left) exit 1 0 0 6 (c .match .keys7) refl refl refl (omega arith)
 
--- src/forms.rt:202:1
 returns-10 : tie.Need-returns-10
 returns-10 c = heads.operation-unknown _ _ (c .before .before .before .pre) (c .before .before .if1 .left) (c .match .rest .0 .0 .0 .0 .0 .0 .1) (c .match .rest .0 .0 .0 .0 .0 .1) (c .match .rest .0 .0 .0 .0 .1) (c .match .rest .0 .0 .0 .1) (c .match .rest .0 .0 .1) (c .match .rest .0 .1) (c .match .rest .1)
 

@@ -9,47 +9,36 @@ use Rattle.checker.proofs.forms.substitute_head.Reads as reads
 use Rattle.checker.proofs.forms.substitute_head.Lts as lts
 use Rattle.checker.proofs.entries.positions.Reads as positions-reads
 
--- src/forms.rt:187:17
 add-place : tie.Need-add-place
 add-place c = search needs
 
--- src/forms.rt:189:9
 returns : tie.Need-returns
 returns c = heads.substitute-end _ _ _ (c .before .before .pre) (c .if1 .taken)
 
--- src/forms.rt:191:17
 shared-slice-read-count : tie.Need-shared-slice-read-count
 shared-slice-read-count c = search needs
 
--- src/forms.rt:191:17
 cast-count : tie.Need-cast-count
 cast-count c = omega (arith, c .shared-slice-known2 .given (c .before .before .before .args .at + 1))
 
--- src/forms.rt:193:9
 returns-2 : tie.Need-returns-2
 returns-2 c = heads.substitute-many _ _ _ (c .before .before .before .before .pre) (c .before .before .if1 .left) (c .if2 .taken)
 
--- src/forms.rt:195:31
 add-positions : tie.Need-add-positions
 add-positions c = search needs
 
--- src/forms.rt:195:11
 positions-requires : tie.Need-positions-requires
 positions-requires c κs = omega arith
 
--- src/forms.rt:196:18
 enum-known-on : tie.Need-enum-known-on
 enum-known-on c = search needs
 
--- src/forms.rt:197:19
 enum-known-n : tie.Need-enum-known-n
 enum-known-n c = search needs
 
--- src/forms.rt:183:1
 returns-3 : tie.Need-returns-3
 returns-3 c = heads.substitute-goes _ _ _ (c .before .before .before .before .before .before .before .before .pre) (c .before .before .before .before .before .before .if1 .left) (c .before .before .before .before .if2 .left) _ (c .before .before .before .positions .ensures .1) _ (c .before .on .given .1) (loops.within-on _ _ _ _ (c .before .before .before .positions .ensures .0) (c .before .on .given .1) .1)
 
--- src/forms.rt:183:1
 returns-4 : tie.Need-returns-4
 returns-4 c = heads.substitute-position _ _ _ (c .before .before .before .before .before .before .before .before .pre) (c .before .before .before .before .before .before .if1 .left) (c .before .before .before .before .if2 .left) _ (c .before .before .before .positions .ensures .1) _ _ (c .before .n .given .1)
 

@@ -13,83 +13,63 @@ use Rattle.checker.proofs.forms.expect_byte.Reads as expect-byte-reads
 use Rattle.checker.proofs.forms.last_is.Reads as last-is-reads
 use Rattle.checker.proofs.forms.name.Reads as name-reads
 
--- src/forms.rt:167:31
 add-name : tie.Need-add-name
 add-name c = omega arith
 
--- src/forms.rt:167:11
 name-requires : tie.Need-name-requires
 name-requires c κs = omega arith
 
--- src/forms.rt:168:18
 enum-known-t : tie.Need-enum-known-t
 enum-known-t c = search needs
 
--- src/forms.rt:169:42
 add-last-is : tie.Need-add-last-is
 add-last-is c = omega arith
 
--- src/forms.rt:169:40
 shared-slice-read-last-is : tie.Need-shared-slice-read-last-is
 shared-slice-read-last-is c = omega (arith, law.name-is _ _ _ _ (c .before .before .before .before .name .ensures) _ (c .before .before .t .given .1))
 
--- src/forms.rt:169:17
 last-is-requires : tie.Need-last-is-requires
 last-is-requires c κs = c .before .before .before .before .before .before .before .before .pre .1 .0
 
--- src/forms.rt:170:17
 returns : tie.Need-returns
 returns c = heads.switch-other _ _ _ _ _ _ _ (c .before .before .before .before .before .before .name .ensures) _ (c .before .before .before .before .t .given .1) _ (c .before .last-is .ensures) (not-true _ (c .if1 .taken))
 
--- src/forms.rt:172:23
 mul-sig : tie.Need-mul-sig
 mul-sig c = omega (arith, law.name-is _ _ _ _ (c .before .before .before .before .before .before .name .ensures) _ (c .before .before .before .before .t .given .1))
 
--- src/forms.rt:172:23
 shared-slice-read-sig : tie.Need-shared-slice-read-sig
 shared-slice-read-sig c = omega (arith, law.name-is _ _ _ _ (c .before .before .before .before .before .before .before .name .ensures) _ (c .before .before .before .before .before .t .given .1))
 
--- src/forms.rt:173:34
 shared-slice-read-expect-byte : tie.Need-shared-slice-read-expect-byte
 shared-slice-read-expect-byte c = law.offset-inside (c .before .before .before .before .before .before .before .before .before .before .before .before .pre .1 .1) _ (omega (arith, law.name-is _ _ _ _ (c .before .before .before .before .before .before .before .before .name .ensures) _ (c .before .before .before .before .before .before .t .given .1)))
 
--- src/forms.rt:173:34
 cast-expect-byte : tie.Need-cast-expect-byte
 cast-expect-byte c = omega (arith, c .shared-slice-known6 .given (getD (c .before .before .before .before .before .before .before .before .before .before .before .before .args .sigs .now) (c .before .before .before .before .before .before .t .given .0 .0) 0))
 
--- src/forms.rt:173:55
 add-expect-byte : tie.Need-add-expect-byte
 add-expect-byte c = omega arith
 
--- src/forms.rt:173:55
 add-expect-byte-2 : tie.Need-add-expect-byte-2
 add-expect-byte-2 c = omega (arith, law.name-is _ _ _ _ (c .before .before .before .before .before .before .before .before .name .ensures) _ (c .before .before .before .before .before .before .t .given .1))
 
--- src/forms.rt:173:19
 expect-byte-requires : tie.Need-expect-byte-requires
 expect-byte-requires c κs = omega (arith, law.name-is _ _ _ _ (c .before .before .before .before .before .before .before .before .name .ensures) _ (c .before .before .before .before .before .before .t .given .1))
 
--- src/forms.rt:174:26
 enum-known-next : tie.Need-enum-known-next
 enum-known-next c = search needs
 
--- src/forms.rt:175:27
 enum-known-n : tie.Need-enum-known-n
 enum-known-n c = search needs
 
--- src/forms.rt:178:19
 enum-known-n-2 : tie.Need-enum-known-n-2
 enum-known-n-2 c = search needs
 
--- src/forms.rt:163:1
 returns-2 : tie.Need-returns-2
 returns-2 c = heads.switch-goes _ _ _ _ _ _ _ (c .before .before .before .before .before .before .before .before .before .before .before .before .name .ensures) _ (c .before .before .before .before .before .before .before .before .before .before .t .given .1) _ (c .before .before .before .before .before .before .before .last-is .ensures) (not-false _ (c .before .before .before .before .before .before .if1 .left)) _ (c .before .before .before .expect-byte .ensures .1) (c .before .before .before .expect-byte .ensures .0) _ (c .before .next .given .1)
 
--- src/forms.rt:163:1
 returns-3 : tie.Need-returns-3
 returns-3 c = heads.switch-count _ _ _ _ _ _ _ (c .before .before .before .before .before .before .before .before .before .before .before .before .name .ensures) _ (c .before .before .before .before .before .before .before .before .before .before .t .given .1) _ (c .before .before .before .before .before .before .before .last-is .ensures) (not-false _ (c .before .before .before .before .before .before .if1 .left)) _ (c .before .before .before .expect-byte .ensures .1) (c .before .before .before .expect-byte .ensures .0) _ _ (c .before .n .given .1)
 
--- src/forms.rt:163:1
 returns-4 : tie.Need-returns-4
 returns-4 c = heads.switch-signature _ _ _ _ _ _ _ (c .before .before .before .name .ensures) _ _ (c .before .n2 .given .1)
 

@@ -1,61 +1,48 @@
 use native.Mathlib.Omega.{arith}
 use Prim.Native.Nat.{_+_}
-use Rattle.checker.proofs.Types as law
+use Rattle.checker.proofs.TypeLaws as law
 use borrow.Author.Needs.{needs}
 use Rattle.checker.proofs.head.read_type.Statement.{statement}
 use Rattle.checker.proofs.head.read_type.Tie as tie
 use Rattle.checker.proofs.head.read_type.Reads as reads
 use Rattle.checker.proofs.head.read_type.Lts as lts
 
--- src/lib.rt:15:9
 returns : tie.Need-returns
 returns c = search (needs, law.type-none)
 
--- src/lib.rt:17:16
 shared-slice-read-kind : tie.Need-shared-slice-read-kind
 shared-slice-read-kind c = search needs
 
--- src/lib.rt:19:9
 returns-2 : tie.Need-returns-2
 returns-2 c = search (needs, law.type-kind)
 
--- src/lib.rt:21:16
 add-next : tie.Need-add-next
 add-next c = search needs
 
--- src/lib.rt:23:9
 returns-3 : tie.Need-returns-3
 returns-3 c = search (needs, law.type-short)
 
--- src/lib.rt:25:18
 shared-slice-read-number : tie.Need-shared-slice-read-number
 shared-slice-read-number c = search needs
 
--- src/lib.rt:25:18
 cast-number : tie.Need-cast-number
 cast-number c = omega (arith, c .shared-slice-known2 .given (c .before .before .before .before .before .args .at + 1))
 
--- src/lib.rt:28:13
 returns-4 : tie.Need-returns-4
 returns-4 c = search (needs, law.type-not-zero)
 
--- src/lib.rt:30:32
 add-t13 : tie.Need-add-t13
 add-t13 c = search needs
 
--- src/lib.rt:30:9
 returns-5 : tie.Need-returns-5
 returns-5 c = search (needs, law.type-ext)
 
--- src/lib.rt:33:9
 returns-6 : tie.Need-returns-6
 returns-6 c = search (needs, law.type-unknown)
 
--- src/lib.rt:35:21
 add-t7 : tie.Need-add-t7
 add-t7 c = search needs
 
--- src/lib.rt:9:1
 returns-7 : tie.Need-returns-7
 returns-7 c = search (needs, law.type-known)
 

@@ -18,39 +18,30 @@ Inv-loop s sigs at count p₀ left₀ p left = (at ≤ p) × ((p ≤ length s) �
 abbrev μ-loop : tie.MeasureT-loop
 μ-loop s sigs at count p₀ left₀ p left = left
 
--- src/lib.rt:46:5
 loop-holds : tie.Need-loop-holds Inv-loop μ-loop
 loop-holds c = (omega arith, (omega arith, λ r t. t))
 
--- src/lib.rt:47:15
 read-type-requires : tie.Need-read-type-requires Inv-loop μ-loop
 read-type-requires c κs = omega arith
 
--- src/lib.rt:48:29
 enum-known-next : tie.Need-enum-known-next Inv-loop μ-loop
 enum-known-next c = search needs
 
--- src/lib.rt:51:30
 enum-known-n : tie.Need-enum-known-n Inv-loop μ-loop
 enum-known-n c = search needs
 
--- src/lib.rt:52:17
 returns : tie.Need-returns Inv-loop μ-loop
 returns c = (tt, c .before .before .before .before .before .loop .inv .1 .1 _ (loops.times-bad _ _ _ _ (c .before .before .before .before .loop-test .taken) _ (c .before .before .before .read-type .ensures .1) _ _ (c .before .n .given .1)))
 
--- src/lib.rt:55:9
 sub-left : tie.Need-sub-left Inv-loop μ-loop
 sub-left c = omega arith
 
--- src/lib.rt:46:5
 loop-less : tie.Need-loop-less Inv-loop μ-loop
 loop-less c = omega arith
 
--- src/lib.rt:46:5
 loop-again : tie.Need-loop-again Inv-loop μ-loop
 loop-again c = (omega (arith, loops.within-on _ _ _ _ (c .before .before .before .read-type .ensures .0) (c .before .next .given .1)), (omega (arith, loops.within-on _ _ _ _ (c .before .before .before .read-type .ensures .0) (c .before .next .given .1)), λ r t. c .before .before .before .before .before .loop .inv .1 .1 r (loops.times-on _ _ _ _ (c .before .before .before .before .loop-test .taken) _ (c .before .before .before .read-type .ensures .1) _ (c .before .next .given .1) r t)))
 
--- src/lib.rt:39:1
 returns-2 : tie.Need-returns-2 Inv-loop μ-loop
 returns-2 c = (omega arith, c .before .loop .inv .1 .1 _ (loops.times-none _ _ _ _ (c .loop-test .left)))
 
