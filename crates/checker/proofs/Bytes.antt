@@ -1,12 +1,11 @@
 -- What the readers of items give at an offset of a slice. Assumes nothing.
-use Prim.Native.Nat.{ℕ, zero, suc, _+_, _*_, _≤_, _<_}
-use mathlib.Core.Path.{_≡_, refl, ap, sym, _∙_}
-use mathlib.Core.List.{List, [], _∷_}
+use Prim.Native.Nat.{ℕ, _+_, _<_}
+use mathlib.Core.Path.{_≡_}
+use mathlib.Core.List.{List}
 use native.Mathlib.Numerals.{add-one}
-use native.Mathlib.Omega.{arith}
-use lib.ListN.{length, getD, take, drop}
+use lib.ListN.{length, getD, drop}
 use lib.Seq.{drop-cons, drop-length}
-use Rattle.definitions.specs.Reader.{fault, Read, got, refused, byte}
+use Rattle.definitions.specs.Reader.{fault, got, refused, byte}
 
 pub byte-end : (s : List ℕ) (at : ℕ) → at ≡ length s → byte at (drop at s) ≡ refused (fault 3 at)
 unfolding byte

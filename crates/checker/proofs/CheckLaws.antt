@@ -26,8 +26,8 @@ use Rattle.checker.specs.Places.{PlacedFrom}
 use Rattle.checker.specs.Bodies.{LabelsFit, BodiesIs, HeadRead, opening}
 use Rattle.checker.proofs.Loops.{shown-bad, shown-on, forget-after}
 use Rattle.checker.proofs.Counts.{after-bad, after-on}
-use Rattle.checker.proofs.Lists.{at-some, at-below, parameters-at}
-use Rattle.checker.proofs.Places.{laid-below, laid-counted}
+use Rattle.checker.proofs.Lists.{laid-inside, at-some, at-below, parameters-at}
+use Rattle.checker.proofs.Places.{laid-counted}
 
 -- ---- the tests before the content
 
@@ -125,7 +125,7 @@ module _ {A : Type 0} (f : A → List ℕ) (s : List ℕ) (at : ℕ) (l : List A
   unfolding counted
   listed h w =
       with′ (laid-counted f s at l w) λ i.
-      record { inside = laid-below s at (length l) (flatMap f l) w; count = i .0; few = h; laid = i .1 }
+      record { inside = omega (arith, laid-inside s at (length l) (flatMap f l) w); count = i .0; few = h; laid = i .1 }
 
   placed : Listed f s at l → (table : List ℕ) → length table ≡ 64 → PlacedFrom f s (at + 1) (getD s at 0) table → Placed f s (take (getD s at 0) table) l
   placed i table h p =

@@ -1,34 +1,32 @@
 -- The tests of new, switch, substitute and extern before their clauses or remainder, in each case. Assumes nothing.
 use Prim.Native.Nat.{ℕ, zero, suc, _+_, _-_, _≤_, _<_}
 use mathlib.Core.Path.{_≡_, refl, ap, sym, _∙_}
-use mathlib.Core.List.{List, [], _∷_, _++_, map, flatMap}
+use mathlib.Core.List.{List, [], _∷_, map}
 use mathlib.Core.Bool.{Bool, true, false, _&&_}
 use mathlib.Core.Option.{some as some-of}
 use native.Mathlib.Omega.{arith}
-use lib.ListN.{length, getD, getElem?, take, drop, replicate, length-append, length-drop}
+use lib.ListN.{length, getD, getElem?, take, drop, replicate, length-drop}
 use lib.Seq.{drop-drop}
-use lib.Dec.{eqb, leb}
+use lib.Dec.{eqb}
 use borrow.Author.Tests.{eq-eqb, ne-eqb, le-leb, lt-leb}
 use Rattle.definitions.specs.Limits.{widest}
-use Rattle.definitions.specs.Terms.{Ty, prd, cns, ext, Environment, Signature, Operation, lit, Statement, Clauses, switch, substitute, invoke}
+use Rattle.definitions.specs.Terms.{Ty, prd, cns, ext, Environment, Signature, Operation, lit, switch, substitute, invoke}
 use Rattle.definitions.specs.Typing.{At, arguments, gains}
 use Rattle.definitions.specs.Layout.{kindByte, numberByte, typeBytes, named}
 use Rattle.definitions.specs.Ends.{front, back, last}
-use Rattle.definitions.specs.Reader.{fault, Read, got, refused, Reader, after, give, need, the, byte, item, spelt, times, count, known, expected}
-use Rattle.definitions.specs.FirstFault.{consumes, anInvoke, sameType, sameTypes, operations, operation, clauses}
+use Rattle.definitions.specs.Reader.{fault, got, refused, after, give, need, the, byte, item, spelt, times, count, known, expected}
+use Rattle.definitions.specs.FirstFault.{consumes, anInvoke, sameTypes, operations, operation, clauses}
 use Rattle.exactness.proofs.Readers.{with′}
 use Rattle.exactness.proofs.Numbers.{item-enough}
 use Rattle.checker.specs.declared.Walk.{Walk}
 use Rattle.checker.specs.declared.Walk.the-variants.{On, Bad}
 use Rattle.checker.specs.declared.Name.{Name}
 use Rattle.checker.specs.declared.Name.the-variants.{Is, Not}
-use Rattle.checker.specs.declared.Step.{Step}
 use Rattle.checker.specs.declared.Step.the-variants.{To, Fails}
-use Rattle.checker.specs.declared.Takes.{Takes}
 use Rattle.checker.specs.declared.Takes.the-variants.{Known as TakesKnown, Unknown as TakesUnknown}
 use Rattle.checker.specs.Shown.{forget, shown, Next}
-use Rattle.checker.specs.Laid.{Laid, Holds, Placed, Known, signatureBytes, parametersBytes}
-use Rattle.checker.specs.Entries.{Below, Positions}
+use Rattle.checker.specs.Laid.{Laid, Holds, Placed, signatureBytes}
+use Rattle.checker.specs.Entries.{Positions}
 use Rattle.checker.specs.Forms.{NameIs, NewIs, newGoes, newFails, Inner, InvokeIs, SwitchIs, switchGoes, switchFails, SubstituteIs, substituteGoes, substituteFails, OperationIs, operationIs, operationNot, LastIs}
 use Rattle.checker.proofs.Bytes.{byte-end, byte-at}
 use Rattle.checker.proofs.Loops.{shown-bad, shown-on, forget-after}
@@ -86,10 +84,11 @@ module _ (image sigs s : List ℕ) (width at : ℕ) (q : Name) (h : NameIs s (le
             let m : at + 1 + 1 + 1 + 1 ≤ length s = expected-on s (getD image (getD sigs t 0) 0) (at + 1 + 1 + 1) x g n e′ z .1 in
             newGoes {sig = getD sigs t 0} {captures = getD s (at + 1 + 1) 0} m few (ap (λ k. getD sigs k 0) (i .1)) (omega arith) (λ Σ Θ inner d Δ p y.
             with′ (at-signature Σ p) λ w.
-            let b : expected (length (w .0)) (at + 1 + 1 + 1) (drop (at + 1 + 1 + 1) s) ≡ got tt (at + 1 + 1 + 1 + 1) (drop (at + 1 + 1 + 1 + 1) s) = rw (w .2) at (expected-on s (getD image (getD sigs t 0) 0) (at + 1 + 1 + 1) x g n e′ z .0) in
-            ( w .0,
+            let b : expected (length (w .0)) (at + 1 + 1 + 1) (drop (at + 1 + 1 + 1) s) ≡ got tt (at + 1 + 1 + 1 + 1) (drop (at + 1 + 1 + 1 + 1) s) = rw (w .2) at (expected-on s (getD image (getD sigs t 0) 0) (at + 1 + 1 + 1) x g n e′ z .0) in (
+              w .0,
               w .1,
-              rw (w .3, byte-at s (at + 1 + 1) more, le-leb (getD s (at + 1 + 1) 0) (length Δ) (rw y few), b, ← (i .1)) ))
+              rw (w .3, byte-at s (at + 1 + 1) more, le-leb (getD s (at + 1 + 1) 0) (length Δ) (rw y few), b, ← (i .1)),
+            ))
 
 -- ---- the last entry
 
@@ -112,7 +111,8 @@ module _ (env : List (List ℕ)) (full : length env ≡ 32) (width : ℕ) (narro
     pub last-none : width ≡ 0 → LastIs env width kind number false
     last-none z = record {
       is = λ Δ t k e. none Δ t (holds-length env full width narrow Δ k ∙ z);
-      some = λ y. absurd (false-true y) }
+      some = λ y. absurd (false-true y);
+    }
       where
         none : (Δ : Environment) (t : Ty) → length Δ ≡ 0 → _≡_ {A = Bool} false (sameTypes (back Δ 1) (t ∷ []))
         none [] t n = refl
@@ -170,10 +170,11 @@ module _ (image sigs s : List ℕ) (env : List (List ℕ)) (width at : ℕ) (q :
           let m : at + 1 + 1 + 1 ≤ length s = expected-on s (getD image (getD sigs t 0) 0) (at + 1 + 1) x g n e′ y .1 in
           switchGoes {sig = getD sigs t 0} m (l .some z) (ap (λ k. getD sigs k 0) (i .1)) (omega arith) (λ Σ Θ inner d Δ p k.
           with′ (at-signature image sigs s width at q h t e Σ p) λ w.
-          let b : expected (length (w .0)) (at + 1 + 1) (drop (at + 1 + 1) s) ≡ got tt (at + 1 + 1 + 1) (drop (at + 1 + 1 + 1) s) = rw (w .2) at (expected-on s (getD image (getD sigs t 0) 0) (at + 1 + 1) x g n e′ y .0) in
-          ( w .0,
+          let b : expected (length (w .0)) (at + 1 + 1) (drop (at + 1 + 1) s) ≡ got tt (at + 1 + 1 + 1) (drop (at + 1 + 1 + 1) s) = rw (w .2) at (expected-on s (getD image (getD sigs t 0) 0) (at + 1 + 1) x g n e′ y .0) in (
+            w .0,
             w .1,
-            rw (w .3, ← (l .is Δ (prd t) k wanted), z, b) (forget-after (clauses Σ Θ inner named d (front Δ 1) [] 0 (w .0) (at + 1 + 1 + 1) (drop (at + 1 + 1 + 1) s)) (λ cs. switch t cs)) ))
+            rw (w .3, ← (l .is Δ (prd t) k wanted), z, b) (forget-after (clauses Σ Θ inner named d (front Δ 1) [] 0 (w .0) (at + 1 + 1 + 1) (drop (at + 1 + 1 + 1) s)) (λ cs. switch t cs)),
+          ))
 
 -- ---- substitute
 
@@ -192,17 +193,22 @@ module _ (s : List ℕ) (width at : ℕ) (inside : at < length s) where
       pub substitute-position : (k o : ℕ) → x ≡ Bad k o → SubstituteIs s width at (Fails k o)
       unfolding after need
       substitute-position k o y = substituteFails {n = k} {o = o} (λ Σ Θ inner d Δ l.
-          rw (byte-at s (at + 1) (omega arith), le-leb 0 (getD s (at + 1) 0) (omega arith), le-leb (getD s (at + 1) 0) widest few,
-            shown-bad s (times (getD s (at + 1) 0) (known Δ) (at + 1 + 1) (drop (at + 1 + 1) s)) x k o (p .reads Δ l) y))
+          rw (
+            byte-at s (at + 1) (omega arith),
+            le-leb 0 (getD s (at + 1) 0) (omega arith),
+            le-leb (getD s (at + 1) 0) widest few,
+            shown-bad s (times (getD s (at + 1) 0) (known Δ) (at + 1 + 1) (drop (at + 1 + 1) s)) x k o (p .reads Δ l) y,
+          ))
 
       pub substitute-goes : (on : ℕ) → x ≡ On on → on ≤ length s → SubstituteIs s width at (To on (getD s (at + 1) 0))
       unfolding after need
       substitute-goes on y w = substituteGoes {on = on} {count = getD s (at + 1) 0} (p .ended on y) w few (p .below on y) (λ Σ Θ inner d Δ l.
-          with′ (shown-on s (times (getD s (at + 1) 0) (known Δ) (at + 1 + 1) (drop (at + 1 + 1) s)) x on (p .reads Δ l) y) λ v.
-          ( v .0,
+          with′ (shown-on s (times (getD s (at + 1) 0) (known Δ) (at + 1 + 1) (drop (at + 1 + 1) s)) x on (p .reads Δ l) y) λ v. (
+            v .0,
             v .1 ∙ ap (λ k. got (v .0) k (drop k s)) (p .ended on y),
             rw (byte-at s (at + 1) (omega arith), le-leb 0 (getD s (at + 1) 0) (omega arith), le-leb (getD s (at + 1) 0) widest few, v .1)
-              (forget-after (inner d (map (λ p. p .1) (v .0)) on (drop on s)) (λ u. substitute (map (λ p. p .0) (v .0)) u)) ))
+                (forget-after (inner d (map (λ p. p .1) (v .0)) on (drop on s)) (λ u. substitute (map (λ p. p .0) (v .0)) u)),
+          ))
 
 -- ---- operations
 
@@ -263,9 +269,11 @@ module _ (image sigs s : List ℕ) (env : List (List ℕ)) (full : length env �
     -- the last entry, by its bytes
     pub invoke-kind : (getD (getD env (width - 1) []) 0 0 ≡ 1 → ⊥) → InvokeIs image sigs s env width at (Bad 8 at)
     unfolding after the shown
-    invoke-kind n = record { is = λ Σ Θ inner d Δ p k.
-        with′ (last-held env full width narrow some Δ k) λ w.
-        rw (w .1) (go (w .0) (λ e. n (rw (w .3) e)) Σ inner d Δ) }
+    invoke-kind n = record {
+      is = λ Σ Θ inner d Δ p k.
+          with′ (last-held env full width narrow some Δ k) λ w.
+          rw (w .1) (go (w .0) (λ e. n (rw (w .3) e)) Σ inner d Δ);
+    }
       where
         go : (u : Ty) → (kindByte u ≡ 1 → ⊥) → (Σ : List Signature) (inner : Inner) (d : ℕ) (Δ : Environment) → forget (after (the (consumes u) 8 at (at + 1) (drop (at + 1) s)) (λ t. λ at′ xs. after (the (getElem? Σ t) 8 at at′ xs) (λ S. λ at′ xs. after (known S at′ xs) (λ m. λ at′ xs. after (need (sameTypes (front Δ 1) (m .1)) 8 at at′ xs) (λ _. give (invoke (m .0))))))) ≡ refused (fault 8 at)
         go (prd k) n Σ inner d Δ = refl
@@ -299,17 +307,21 @@ module _ (image sigs s : List ℕ) (env : List (List ℕ)) (full : length env �
 
         pub invoke-symbol : (n o : ℕ) → q ≡ Not n o → InvokeIs image sigs s env width at (Bad n o)
         unfolding after the shown
-        invoke-symbol n o e = record { is = λ Σ Θ inner d Δ p k.
-            with′ (its-signature Σ p) λ w.
-            rw (consumer-last Δ k, w .1, known-not s (getD image (getD sigs t 0) 0) (at + 1) q h (w .0) (w .3) n o e) }
+        invoke-symbol n o e = record {
+          is = λ Σ Θ inner d Δ p k.
+              with′ (its-signature Σ p) λ w.
+              rw (consumer-last Δ k, w .1, known-not s (getD image (getD sigs t 0) 0) (at + 1) q h (w .0) (w .3) n o e);
+        }
 
         module _ (m : ℕ) (e : q ≡ Is m) (list : ℕ) (f : Symbol image (getD sigs t 0) m list) (r : Bool) (g : Equals image env (width - 1) list r) where
           compared-rest : (x : Walk) (b : Bool) → r ≡ b → shown s x ≡ forget (after (need b 8 at (at + 1 + 1) (drop (at + 1 + 1) s)) (λ _. give (invoke m))) → InvokeIs image sigs s env width at x
           unfolding after the
-          compared-rest x b z y = record { is = λ Σ Θ inner d Δ p k.
-              with′ (its-signature Σ p) λ w.
-              with′ (known-is s (getD image (getD sigs t 0) 0) (at + 1) q h (w .0) (w .3) m e) λ v.
-              rw (consumer-last Δ k, w .1, v .2, ← (g (front Δ 1) (v .0) (holds-front env full width narrow Δ k 1 some) (f (w .0) (v .0) (w .2) (v .1))), z) (sym y) }
+          compared-rest x b z y = record {
+            is = λ Σ Θ inner d Δ p k.
+                with′ (its-signature Σ p) λ w.
+                with′ (known-is s (getD image (getD sigs t 0) 0) (at + 1) q h (w .0) (w .3) m e) λ v.
+                rw (consumer-last Δ k, w .1, v .2, ← (g (front Δ 1) (v .0) (holds-front env full width narrow Δ k 1 some) (f (w .0) (v .0) (w .2) (v .1))), z) (sym y);
+          }
 
           pub invoke-same : r ≡ true → InvokeIs image sigs s env width at (On (at + 1 + 1))
           unfolding after need shown

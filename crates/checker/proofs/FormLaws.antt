@@ -1,14 +1,13 @@
 -- The tests of each form, in each case. Assumes nothing.
-use Prim.Native.Nat.{ℕ, zero, suc, _+_, _-_, _≤_, _<_}
-use mathlib.Core.Path.{_≡_, refl, ap, sym, _∙_}
+use Prim.Native.Nat.{ℕ, suc, _+_, _-_, _≤_, _<_}
+use mathlib.Core.Path.{_≡_, refl, sym, _∙_}
 use mathlib.Core.List.{List, [], _∷_, _++_, map, flatMap}
-use mathlib.Core.Bool.{Bool, true, false, _&&_}
+use mathlib.Core.Bool.{Bool, true, false}
 use native.Mathlib.Omega.{arith}
-use lib.ListN.{length, getD, getElem?, take, drop, length-append}
-use lib.Dec.{eqb}
+use lib.ListN.{length, getD, take, drop, length-append}
 use borrow.Author.Tests.{eq-eqb, ne-eqb, le-leb, lt-leb}
 use Rattle.definitions.specs.Limits.{widest}
-use Rattle.definitions.specs.Terms.{Ty, prd, cns, Environment, Signature, let′, new, switch}
+use Rattle.definitions.specs.Terms.{Ty, prd, Environment, Signature, let′}
 use Rattle.definitions.specs.Layout.{typeBytes, counted}
 use Rattle.definitions.specs.Ends.{front, back}
 use Rattle.definitions.specs.Typing.{At}
@@ -18,9 +17,8 @@ use Rattle.checker.specs.declared.Walk.{Walk}
 use Rattle.checker.specs.declared.Walk.the-variants.{On, Bad}
 use Rattle.checker.specs.declared.Name.{Name}
 use Rattle.checker.specs.declared.Name.the-variants.{Is, Not}
-use Rattle.checker.specs.declared.Step.{Step}
 use Rattle.checker.specs.declared.Step.the-variants.{To, Fails}
-use Rattle.checker.specs.Forms.{NameIs, isNamed, isEnded, isUnknown, JumpIs, InvokeIs, LetIs, letGoes, letFails, NewIs, newGoes, newFails, SwitchIs, switchGoes, switchFails}
+use Rattle.checker.specs.Forms.{NameIs, isNamed, isEnded, isUnknown, JumpIs, LetIs, letGoes, letFails}
 use Rattle.checker.specs.Shown.{forget, shown}
 use Rattle.checker.specs.Laid.{Laid, Holds, Placed, Known, parametersBytes, signatureBytes, ParametersAt, SignatureAt}
 use Rattle.checker.proofs.Bytes.{byte-end, byte-at}
@@ -58,7 +56,6 @@ count-inside s list p =
 module _ (s : List ℕ) (env : List (List ℕ)) (width : ℕ) (list : ℕ) where
   abbrev pub Equals : Bool → Type 0
   Equals r = (Δ Γ : Environment) → Holds env width Δ → Laid s list (parametersBytes Γ) → r ≡ sameTypes Δ Γ
-
 
   abbrev pub EndsWith : Bool → Type 0
   EndsWith r = (Δ Γ : Environment) → Holds env width Δ → Laid s list (parametersBytes Γ) → r ≡ sameTypes (back Δ (length Γ)) Γ
@@ -139,15 +136,19 @@ module _ (image labels s : List ℕ) (env : List (List ℕ)) (width at : ℕ) (q
   module _ (l : ℕ) (e : q ≡ Is l) (r : Bool) (g : Equals image env width (getD labels l 0) r) where
     pub jump-same : r ≡ true → JumpIs image labels s env width at (On (at + 1 + 1))
     unfolding after need shown
-    jump-same t = record { is = λ Σ Θ inner d Δ p k.
-        with′ (known-is s (length labels) (at + 1) q h Θ (p .many) l e) λ w.
-        rw (w .2, ← (g Δ (w .0) k (p .laid l (w .0) (w .1))), t) }
+    jump-same t = record {
+      is = λ Σ Θ inner d Δ p k.
+          with′ (known-is s (length labels) (at + 1) q h Θ (p .many) l e) λ w.
+          rw (w .2, ← (g Δ (w .0) k (p .laid l (w .0) (w .1))), t);
+    }
 
     pub jump-other : r ≡ false → JumpIs image labels s env width at (Bad 8 at)
     unfolding after need shown
-    jump-other t = record { is = λ Σ Θ inner d Δ p k.
-        with′ (known-is s (length labels) (at + 1) q h Θ (p .many) l e) λ w.
-        rw (w .2, ← (g Δ (w .0) k (p .laid l (w .0) (w .1))), t) }
+    jump-other t = record {
+      is = λ Σ Θ inner d Δ p k.
+          with′ (known-is s (length labels) (at + 1) q h Θ (p .many) l e) λ w.
+          rw (w .2, ← (g Δ (w .0) k (p .laid l (w .0) (w .1))), t);
+    }
 
 -- ---- signatures
 
@@ -225,11 +226,12 @@ module _ (image sigs s : List ℕ) (env : List (List ℕ)) (full : length env �
           let x : (at + 1 + 1 < length s) × (m ≡ getD s (at + 1 + 1) 0) × (m < getD image (getD sigs t 0) 0) = name-is s (getD image (getD sigs t 0) 0) (at + 1 + 1) q′ h′ m e′ in
           letGoes {on = at + 1 + 1 + 1} {kept = width - getD image list 0} refl (omega arith) (omega arith) (omega arith) (λ Σ Θ inner d Δ p k.
           with′ (at-signature Σ p) λ w.
-          with′ (at-symbol (w .0) (w .1) (w .2) Δ k) λ v.
-          ( front Δ (length (v .0)),
+          with′ (at-symbol (w .0) (w .1) (w .2) Δ k) λ v. (
+            front Δ (length (v .0)),
             rw (v .1) (holds-front env full width narrow Δ k (length (v .0)) (omega arith)),
             rw (w .3, v .3, ← (v .2), z, le-leb (length (front Δ (length (v .0)) ++ (prd t ∷ []))) widest (rw (kept-length (v .0) Δ (prd t) k (v .1) b) (omega arith)), ← (name-is s (length sigs) (at + 1) q h t e .1))
-              (forget-after (inner d (front Δ (length (v .0)) ++ (prd t ∷ [])) (at + 1 + 1 + 1) (drop (at + 1 + 1 + 1) s)) (λ u. let′ t m u)) ))
+                (forget-after (inner d (front Δ (length (v .0)) ++ (prd t ∷ [])) (at + 1 + 1 + 1) (drop (at + 1 + 1 + 1) s)) (λ u. let′ t m u)),
+          ))
 
 pub false-true : _≡_ {A = Bool} false true → ⊥
 false-true q = let z : _≡_ {A = ℕ} 0 1 = cc in omega arith

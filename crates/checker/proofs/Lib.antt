@@ -1,13 +1,13 @@
 pub mod Bytes
 pub mod Loops
+pub mod Lists
 pub mod TypeLaws
 pub mod Counts
 pub mod Places
-pub mod Filling
 pub mod Held
+pub mod Filling
 pub mod Positions
 pub mod Symbols
-pub mod Lists
 pub mod FormLaws
 pub mod ClauseHeads
 pub mod RegionLaws

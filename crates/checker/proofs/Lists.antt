@@ -1,20 +1,19 @@
 -- What stands at an offset, and what an array of types holds. Assumes nothing.
 use Prim.Native.Nat.{ℕ, zero, suc, _+_, _-_, _≤_, _<_}
 use mathlib.Core.Path.{_≡_, refl, ap, sym, _∙_}
-use mathlib.Core.List.{List, [], _∷_, _++_, append-assoc, append-nil, map, flatMap}
+use mathlib.Core.List.{List, [], _∷_, _++_, append-assoc, map, flatMap}
 use mathlib.Core.Bool.{Bool, true, false, _&&_}
-use mathlib.Core.Option.{Option, none, some}
+use mathlib.Core.Option.{none}
 use native.Mathlib.Nat.{zero-add, suc-add}
-use native.Mathlib.Numerals.{add-one}
 use native.Mathlib.Omega.{arith}
-use lib.ListN.{length, getD, getElem?, take, drop, length-append, length-drop, length-map, take-append-drop}
+use lib.ListN.{length, getD, getElem?, take, drop, length-append, length-drop, length-map}
 use lib.Seq.{drop-drop, drop-append-seam, take-append-seam, getD-drop, length-take-le, take-take, take-nil}
-use Rattle.definitions.specs.Terms.{Ty, Environment, Signature}
+use Rattle.definitions.specs.Terms.{Environment}
 use Rattle.definitions.specs.Typing.{At}
 use Rattle.definitions.specs.Layout.{typeBytes, counted}
 use Rattle.definitions.specs.Ends.{front, back}
 use Rattle.definitions.specs.FirstFault.{sameType, sameTypes}
-use Rattle.checker.specs.Laid.{Laid, Holds, parametersBytes, signatureBytes}
+use Rattle.checker.specs.Laid.{Laid, Holds, parametersBytes}
 
 -- ---- bytes at an offset
 
@@ -47,6 +46,10 @@ unfolding flatMap
 types-length [] = refl
 types-length (t ∷ Γ) = omega (arith, types-length Γ)
 
+pub parameters-length : (Γ : Environment) → length (parametersBytes Γ) ≡ 1 + (length Γ + length Γ)
+unfolding counted
+parameters-length Γ = omega (arith, types-length Γ)
+
 -- a list of parameters at an offset: its count byte, and its types behind it
 pub record Parameters (s : List ℕ) (list : ℕ) (Γ : Environment) : Type 0 where
   pub count : getD s list 0 ≡ length Γ
@@ -59,7 +62,7 @@ parameters-at s list Γ l =
     record {
       count = laid-byte s list (length Γ) (flatMap typeBytes Γ) l;
       inside = omega (arith, laid-inside s list (length Γ) (flatMap typeBytes Γ) l, types-length Γ);
-      types = rw (types-length Γ) at (laid-take s (list + 1) (flatMap typeBytes Γ) (laid-append s list (length Γ ∷ []) (flatMap typeBytes Γ) l))
+      types = rw (types-length Γ) at (laid-take s (list + 1) (flatMap typeBytes Γ) (laid-append s list (length Γ ∷ []) (flatMap typeBytes Γ) l));
     }
 
 -- ---- environments

@@ -1,44 +1,24 @@
 -- What stands where in an image: parts, what is behind a list, and tables of offsets. Assumes nothing.
 use Prim.Native.Nat.{ℕ, zero, suc, _+_, _-_, _*_, _≤_, _<_}
-use mathlib.Core.Path.{_≡_, refl, ap, sym, _∙_}
-use mathlib.Core.List.{List, [], _∷_, _++_, append-assoc, flatMap}
+use mathlib.Core.Path.{_≡_, refl, sym, _∙_}
+use mathlib.Core.List.{List, [], _∷_, _++_, flatMap}
 use native.Mathlib.Numerals.{add-one}
 use native.Mathlib.Omega.{arith}
 use borrow.Author.Count.{below-more}
-use lib.ListN.{length, getD, set, drop, length-append, length-drop}
-use lib.Seq.{drop-cons, drop-drop, drop-append-seam, getD-set-same, getD-set-other}
-use Rattle.definitions.specs.Terms.{Environment}
+use lib.ListN.{length, getD, set, drop, length-append}
+use lib.Seq.{getD-set-same, getD-set-other}
 use Rattle.definitions.specs.Typing.{At}
 use Rattle.definitions.specs.Layout.{typeBytes, counted}
 use Rattle.checker.specs.Laid.{Laid, parametersBytes}
+use Rattle.checker.proofs.Lists.{laid-append, laid-front, laid-byte, laid-inside, types-length, at-below}
 use Rattle.checker.specs.Places.{Behind, PlacedFrom}
 
 -- ---- parts of what stands somewhere
 
-module _ (s : List ℕ) (at : ℕ) (xs ys : List ℕ) (h : Laid s at (xs ++ ys)) where
-  pub laid-front : Laid s at xs
-  laid-front = record { rest = ys ++ h .rest; bytes = h .bytes ∙ append-assoc xs ys (h .rest) }
-
-  pub laid-back : Laid s (at + length xs) ys
-  laid-back = record { rest = h .rest; bytes = sym (drop-drop (length xs) at s) ∙ (ap (drop (length xs)) (h .bytes ∙ append-assoc xs ys (h .rest)) ∙ drop-append-seam xs (ys ++ h .rest)) }
-
-pub laid-long : (s : List ℕ) (at : ℕ) (xs : List ℕ) → Laid s at xs → length xs ≤ length s - at
-laid-long s at xs h = omega (arith, length-drop at s, length-append xs (h .rest), ap length (h .bytes))
-
-module _ (s : List ℕ) (at x : ℕ) (xs : List ℕ) (h : Laid s at (x ∷ xs)) where
-  pub laid-below : at < length s
-  laid-below = omega (arith, laid-long s at (x ∷ xs) h)
-
-  pub laid-first : getD s at 0 ≡ x
-  laid-first = cc (h .bytes, drop-cons s at 0 laid-below)
-
-  pub laid-next : Laid s (at + 1) xs
-  laid-next = laid-back s at (x ∷ []) xs h
-
 -- a count, and what it counts
 pub laid-counted : {A : Type 0} (f : A → List ℕ) (s : List ℕ) (at : ℕ) (l : List A) → Laid s at (counted f l) → (getD s at 0 ≡ length l) × Laid s (at + 1) (flatMap f l)
 unfolding counted
-laid-counted f s at l h = (laid-first s at (length l) (flatMap f l) h, laid-next s at (length l) (flatMap f l) h)
+laid-counted f s at l h = (laid-byte s at (length l) (flatMap f l) h, laid-append s at (length l ∷ []) (flatMap f l) h)
 
 -- ---- what is behind a list
 
@@ -49,7 +29,7 @@ pub record Through {A : Type 0} (f : A → List ℕ) (s : List ℕ) (p n r : ℕ
 module _ {A : Type 0} (f : A → List ℕ) (s : List ℕ) where
   pub behind-none : (at r : ℕ) → length s ≤ at → Behind (counted f) s at r
   unfolding counted
-  behind-none at r h = record { behind = λ l w. absurd (omega (arith, laid-below s at (length l) (flatMap f l) w)) }
+  behind-none at r h = record { behind = λ l w. absurd (omega (arith, laid-inside s at (length l) (flatMap f l) w)) }
 
   pub through-counted : (at r : ℕ) → Through f s (at + 1) (getD s at 0) r → Behind (counted f) s at r
   unfolding counted
@@ -71,28 +51,19 @@ module _ {A : Type 0} (f : A → List ℕ) (s : List ℕ) where
       go [] h w = absurd (some (sym h))
       go (a ∷ l) h w =
           let e : q ≡ p + length (f a) = b .behind a (laid-front s p (f a) (flatMap f l) w) in
-          let i : Laid s q (flatMap f l) = rw e (laid-back s p (f a) (flatMap f l) w) in
+          let i : Laid s q (flatMap f l) = rw e (laid-append s p (f a) (flatMap f l) w) in
           omega (arith, t .through l (omega arith) i, length-append (f a) (flatMap f l))
 
 -- ---- parameters
 
-types-length : (Γ : Environment) → length (flatMap typeBytes Γ) ≡ 2 * length Γ
-unfolding flatMap
-types-length [] = refl
-types-length (t ∷ Γ) = omega (arith, types-length Γ)
-
-pub parameters-length : (Γ : Environment) → length (parametersBytes Γ) ≡ 1 + 2 * length Γ
-unfolding counted
-parameters-length Γ = omega (arith, types-length Γ)
-
 module _ (s : List ℕ) (at : ℕ) where
   pub parameters-past : (r : ℕ) → length s - at < 1 + 2 * getD s at 0 → Behind parametersBytes s at r
   unfolding counted
-  parameters-past r h = record { behind = λ Γ w. absurd (omega (arith, laid-first s at (length Γ) (flatMap typeBytes Γ) w, laid-long s at (length Γ ∷ flatMap typeBytes Γ) w, types-length Γ)) }
+  parameters-past r h = record { behind = λ Γ w. absurd (omega (arith, laid-byte s at (length Γ) (flatMap typeBytes Γ) w, laid-inside s at (length Γ) (flatMap typeBytes Γ) w, types-length Γ)) }
 
   pub parameters-fine : Behind parametersBytes s at (at + (1 + 2 * getD s at 0))
   unfolding counted
-  parameters-fine = record { behind = λ Γ w. omega (arith, laid-first s at (length Γ) (flatMap typeBytes Γ) w, types-length Γ) }
+  parameters-fine = record { behind = λ Γ w. omega (arith, laid-byte s at (length Γ) (flatMap typeBytes Γ) w, types-length Γ) }
 
 -- ---- tables
 
@@ -106,11 +77,6 @@ pub entry : {A : Type 0} (l : List A) (i : ℕ) → i < length l → (a : A) × 
 entry [] i h = absurd (omega arith)
 entry (a ∷ l) zero h = (a, refl, refl)
 entry (a ∷ l) (suc i) h = entry l i (omega arith)
-
-pub at-below : {A : Type 0} (l : List A) (i : ℕ) (a : A) → At l i a → i < length l
-at-below [] i a h = let z : _≡_ {A = ℕ} 0 1 = cc in absurd (omega arith)
-at-below (b ∷ l) zero a h = omega arith
-at-below (b ∷ l) (suc i) a h = omega (arith, at-below l i a h)
 
 module _ {A : Type 0} (f : A → List ℕ) (s : List ℕ) (at count : ℕ) where
   pub placing-none : (table : List ℕ) → Placing f s at count at 0 table
@@ -129,7 +95,7 @@ module _ {A : Type 0} (f : A → List ℕ) (s : List ℕ) (at count : ℕ) where
         let j : Laid s p (f c ++ flatMap f (drop (suc i) l)) = rw d at (t .rest l h w) in
         let front : Laid s p (f c) = laid-front s p (f c) (flatMap f (drop (suc i) l)) j in
         let g : q ≡ p + length (f c) = b .behind c front in
-        (rw (← z) front, rw (g, add-one i) (laid-back s p (f c) (flatMap f (drop (suc i) l)) j))
+        (rw (← z) front, rw (g, add-one i) (laid-append s p (f c) (flatMap f (drop (suc i) l)) j))
 
     pub placing-more : Placing f s at count q (i + 1) (set table i p)
     placing-more = record { rest = λ l h w. let (a, v, d) = entry l i (omega arith) in here l h w a v .1; done = done-more }

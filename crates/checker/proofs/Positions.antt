@@ -19,7 +19,8 @@ use Rattle.checker.specs.Shown.{forget, shown}
 use Rattle.checker.specs.Laid.{Holds}
 use Rattle.checker.specs.Entries.{Below, Positions}
 use Rattle.checker.proofs.Bytes.{byte-end, byte-at}
-use Rattle.checker.proofs.Held.{entry-some, entry-none, entry-bytes, held-at, held-length, held-entry}
+use Rattle.checker.proofs.Lists.{at-some, at-none}
+use Rattle.checker.proofs.Held.{entry-bytes, held-at, held-length, held-entry}
 use Rattle.checker.proofs.Filling.{Filled, fill-more, fill-all}
 
 -- ---- one position
@@ -32,11 +33,11 @@ module _ {A : Type 0} (l : List A) (s : List ℕ) (at : ℕ) where
   module _ (more : at < length s) where
     pub known-far : length l ≤ getD s at 0 → forget (known l at (drop at s)) ≡ shown s (Bad 7 at)
     unfolding after the shown
-    known-far h = rw (byte-at s at more, entry-none l (getD s at 0) h)
+    known-far h = rw (byte-at s at more, at-none l (getD s at 0) h)
 
     pub known-on : getD s at 0 < length l → forget (known l at (drop at s)) ≡ shown s (On (at + 1))
     unfolding after the shown
-    known-on h = let (a, e) = entry-some l (getD s at 0) h in rw (byte-at s at more, e)
+    known-on h = let (a, e) = at-some l (getD s at 0) h in rw (byte-at s at more, e)
 
 -- ---- positions, one after another
 
@@ -115,7 +116,7 @@ module _ (s : List ℕ) (env : List (List ℕ)) (width at : ℕ) (full : width �
     unfolding after the shown
     argument-far h Δ held =
         let l : length Δ ≡ width = held-length env width Δ held full in
-        rw (byte-at s at more, entry-none Δ (getD s at 0) (omega arith))
+        rw (byte-at s at more, at-none Δ (getD s at 0) (omega arith))
 
     module _ (near : getD s at 0 < width) where
       pub argument-other : (getD (getD env (getD s at 0) []) 0 0 ≡ 2 → ⊥) → Argument (Bad 8 at)

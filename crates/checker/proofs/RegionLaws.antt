@@ -1,33 +1,32 @@
 -- Regions, bare clauses, named clauses and extern, in each case. Assumes nothing.
 use Prim.Native.Nat.{ℕ, zero, suc, _+_, _-_, _*_, _≤_, _<_}
 use mathlib.Core.Path.{_≡_, refl, ap, sym, _∙_}
-use mathlib.Core.List.{List, [], _∷_, _++_, map, flatMap, append-nil, append-assoc}
-use mathlib.Core.Bool.{Bool, true, false}
-use native.Mathlib.Nat.{add-zero, zero-add, suc-add}
+use mathlib.Core.List.{List, [], _∷_, _++_, map, flatMap, append-nil}
+use native.Mathlib.Nat.{add-zero, zero-add}
 use native.Mathlib.Numerals.{add-one}
 use native.Mathlib.Omega.{arith}
 use lib.ListN.{length, getD, take, drop, replicate, length-append, length-drop, length-replicate, length-map}
-use lib.Seq.{drop-cons, drop-drop, drop-length, length-take-le, getD-take}
-use lib.Dec.{leb, ltb}
+use lib.Seq.{drop-cons, drop-drop, drop-length, length-take-le}
 use borrow.Author.Tests.{le-leb, lt-leb, lt-ltb, le-ltb}
 use Rattle.definitions.specs.Limits.{widest, deepest}
-use Rattle.definitions.specs.Terms.{ext, Environment, Signature, Operation, Statement, extern, clause}
-use Rattle.definitions.specs.Typing.{All, At, arguments, gains}
+use Rattle.definitions.specs.Terms.{ext, Environment, Signature, extern, clause}
+use Rattle.definitions.specs.Typing.{All, arguments, gains}
 use Rattle.definitions.specs.Layout.{named, bare, typeBytes, counted}
-use Rattle.definitions.specs.Reader.{fault, Read, got, refused, Reader, after, need, item, spelt, end, inRegion, times, expected}
-use Rattle.definitions.specs.FirstFault.{operation, argument, clauses, statement}
+use Rattle.definitions.specs.Reader.{fault, got, refused, after, need, item, end, inRegion, times, expected}
+use Rattle.definitions.specs.FirstFault.{argument, clauses, statement}
 use Rattle.exactness.proofs.Readers.{with′}
 use Rattle.exactness.proofs.Numbers.{item-enough}
 use Rattle.checker.specs.declared.Walk.{Walk}
 use Rattle.checker.specs.declared.Walk.the-variants.{On, Bad}
 use Rattle.checker.specs.declared.Takes.{Takes}
 use Rattle.checker.specs.declared.Takes.the-variants.{Known as TakesKnown, Unknown as TakesUnknown}
-use Rattle.checker.specs.Shown.{forget, shown, Next, Within}
+use Rattle.checker.specs.Shown.{forget, shown, Next}
 use Rattle.checker.specs.Laid.{Laid, Holds, Placed, parametersBytes, signatureBytes, SignatureAt}
 use Rattle.checker.specs.Forms.{OperationIs, operationIs, operationNot}
 use Rattle.checker.specs.Statements.{StatementIs, RegionIs, ClausesFrom, ClausesAre, BareAre, ExternIs, GainIs}
 use Rattle.checker.proofs.Loops.{shown-bad, shown-on, forget-after}
-use Rattle.checker.proofs.Lists.{laid-byte, laid-inside, laid-append, laid-front, Parameters, parameters-at, types-length, holds-length, drop-take}
+use Rattle.checker.proofs.Lists.{laid-byte, laid-append, laid-front, Parameters, parameters-at, parameters-length, holds-length, drop-take}
+use Rattle.checker.proofs.Held.{map-append}
 use Rattle.checker.proofs.ClauseHeads.{expected-on, item-short}
 
 -- ---- gains
@@ -83,25 +82,31 @@ module _ (image sigs labels s : List ℕ) (env : List (List ℕ)) (width depth a
 
       pub region-bad : (n o : ℕ) → x ≡ Bad n o → RegionIs image sigs labels s env width depth at (Bad n o)
       unfolding after need shown
-      region-bad n o e = record { is = λ Σ Θ Δ f p q k b.
-          rw (two-bytes s at more, le-leb size (length (drop (at + 2) s)) (rw length-drop fits), shown-bad (take (at + 2 + size) s) (statement Σ Θ f depth Δ (at + 2) (take size (drop (at + 2) s))) x n o (inside Σ Θ Δ f p q k b) e) }
+      region-bad n o e = record {
+        is = λ Σ Θ Δ f p q k b.
+            rw (two-bytes s at more, le-leb size (length (drop (at + 2) s)) (rw length-drop fits), shown-bad (take (at + 2 + size) s) (statement Σ Θ f depth Δ (at + 2) (take size (drop (at + 2) s))) x n o (inside Σ Θ Δ f p q k b) e);
+      }
 
       pub region-fills : (e : ℕ) → x ≡ On e → e ≡ at + 2 + size → RegionIs image sigs labels s env width depth at (On (at + 2 + size))
       unfolding after need end shown
-      region-fills e g y = record { is = λ Σ Θ Δ f p q k b.
-          with′ (shown-on (take (at + 2 + size) s) (statement Σ Θ f depth Δ (at + 2) (take size (drop (at + 2) s))) x e (inside Σ Θ Δ f p q k b) g) λ w.
-          let z : drop e (take (at + 2 + size) s) ≡ [] = rw y (nothing (take (at + 2 + size) s) (at + 2 + size) (length-take-le (at + 2 + size) s (omega arith))) in
-          rw (two-bytes s at more, le-leb size (length (drop (at + 2) s)) (rw length-drop fits), w .1, z, drop-drop size (at + 2) s) }
+      region-fills e g y = record {
+        is = λ Σ Θ Δ f p q k b.
+            with′ (shown-on (take (at + 2 + size) s) (statement Σ Θ f depth Δ (at + 2) (take size (drop (at + 2) s))) x e (inside Σ Θ Δ f p q k b) g) λ w.
+            let z : drop e (take (at + 2 + size) s) ≡ [] = rw y (nothing (take (at + 2 + size) s) (at + 2 + size) (length-take-le (at + 2 + size) s (omega arith))) in
+            rw (two-bytes s at more, le-leb size (length (drop (at + 2) s)) (rw length-drop fits), w .1, z, drop-drop size (at + 2) s);
+      }
         where
           nothing : (l : List ℕ) (n : ℕ) → length l ≡ n → drop n l ≡ []
           nothing l n e = rw (← e) (drop-length l)
 
       pub region-spare : (e : ℕ) → x ≡ On e → e ≤ at + 2 + size → (e ≡ at + 2 + size → ⊥) → RegionIs image sigs labels s env width depth at (Bad 11 e)
       unfolding after need end shown
-      region-spare e g l y = record { is = λ Σ Θ Δ f p q k b.
-          with′ (shown-on (take (at + 2 + size) s) (statement Σ Θ f depth Δ (at + 2) (take size (drop (at + 2) s))) x e (inside Σ Θ Δ f p q k b) g) λ w.
-          let n : length (take (at + 2 + size) s) ≡ at + 2 + size = length-take-le (at + 2 + size) s (omega arith) in
-          rw (two-bytes s at more, le-leb size (length (drop (at + 2) s)) (rw length-drop fits), w .1, drop-cons (take (at + 2 + size) s) e 0 (omega arith)) }
+      region-spare e g l y = record {
+        is = λ Σ Θ Δ f p q k b.
+            with′ (shown-on (take (at + 2 + size) s) (statement Σ Θ f depth Δ (at + 2) (take size (drop (at + 2) s))) x e (inside Σ Θ Δ f p q k b) g) λ w.
+            let n : length (take (at + 2 + size) s) ≡ at + 2 + size = length-take-le (at + 2 + size) s (omega arith) in
+            rw (two-bytes s at more, le-leb size (length (drop (at + 2) s)) (rw length-drop fits), w .1, drop-cons (take (at + 2 + size) s) e 0 (omega arith));
+      }
 
 -- ---- bare clauses
 
@@ -120,8 +125,8 @@ module _ (image sigs labels s : List ℕ) (env : List (List ℕ)) (width depth :
   -- what holds of the first of some clauses, whatever follows
   first-bare : (left p : ℕ) → (left ≡ 0 → ⊥) → (r : Walk)
       → ((Σ : List Signature) (Θ : List Environment) (Γ Δ ps : Environment) (S : Signature) (i f : ℕ) → Placed signatureBytes image sigs Σ → Placed parametersBytes image labels Θ
-        → Γ ++ ps ++ [] ≡ Δ → All (λ ps. Γ ++ ps ++ [] ≡ Δ) S → length S ≡ left - 1 → length Δ ≡ width → (width ≤ 32 → Holds env width Δ) → length s - p ≤ f
-        → forget (clauses Σ Θ (statement Σ Θ f) bare depth Γ [] i (ps ∷ S) p (drop p s)) ≡ shown s r)
+      → Γ ++ ps ++ [] ≡ Δ → All (λ ps. Γ ++ ps ++ [] ≡ Δ) S → length S ≡ left - 1 → length Δ ≡ width → (width ≤ 32 → Holds env width Δ) → length s - p ≤ f
+      → forget (clauses Σ Θ (statement Σ Θ f) bare depth Γ [] i (ps ∷ S) p (drop p s)) ≡ shown s r)
       → Bare left p r
   first-bare left p some r g = record { is = λ Σ Θ Γ Δ S i f a b c l n h k. go Σ Θ Γ Δ S i f a b c l n h k }
     where
@@ -154,17 +159,9 @@ module _ (image sigs labels s : List ℕ) (env : List (List ℕ)) (width depth :
             with′ (shown-on s (inRegion (statement Σ Θ f (depth + 1) Δ) p (drop p s)) x on (y .is Σ Θ Δ f a b (h narrow) k) e) λ v.
             let z : inRegion (statement Σ Θ f (suc depth) Δ) p (drop p s) ≡ got (v .0) on (drop on s) = rw add-one at (v .1) in
             rw (c, le-leb (length Δ) widest (rw n narrow), lt-ltb depth deepest low, z, forget-after (clauses Σ Θ (statement Σ Θ f) bare depth Γ [] (suc i) S on (drop on s)) (λ ds. clause i (v .0) ds))
-              (t .is Σ Θ Γ Δ S (suc i) f a b cs l n h (omega arith)))
+            (t .is Σ Θ Γ Δ S (suc i) f a b cs l n h (omega arith)))
 
 -- ---- named clauses
-
-map-join : (Γ Γ′ : Environment) → map typeBytes Γ ++ map typeBytes Γ′ ≡ map typeBytes (Γ ++ Γ′)
-map-join [] Γ′ = refl
-map-join (t ∷ Γ) Γ′ = ap (λ l. typeBytes t ∷ l) (map-join Γ Γ′)
-
-parameters-length : (Γ : Environment) → length (parametersBytes Γ) ≡ 1 + (length Γ + length Γ)
-unfolding counted
-parameters-length Γ = omega (arith, types-length Γ)
 
 module _ (image sigs labels s : List ℕ) (env : List (List ℕ)) (full : length env ≡ 32) (before from behind depth : ℕ) (fore : before ≤ 32) (aft : from + behind ≤ 32) where
   abbrev Named : ℕ → ℕ → ℕ → ℕ → Walk → Type 0
@@ -192,8 +189,8 @@ module _ (image sigs labels s : List ℕ) (env : List (List ℕ)) (full : length
     -- what holds of the first of some clauses, whatever follows
     first-named : (r : Walk)
         → ((Σ : List Signature) (Θ : List Environment) (Γ Γ′ ps : Environment) (S : Signature) (f : ℕ) → Placed signatureBytes image sigs Σ → Placed parametersBytes image labels Θ
-          → Holds env before Γ → take behind (drop from env) ≡ map typeBytes Γ′ → many ≡ length ps → take (many + many) (drop (list + 1) image) ≡ flatMap typeBytes ps → Laid image (list + 1 + (many + many)) (flatMap parametersBytes S)
-          → length S ≡ left - 1 → length s - p ≤ f → forget (clauses Σ Θ (statement Σ Θ f) named depth Γ Γ′ i (ps ∷ S) p (drop p s)) ≡ shown s r)
+        → Holds env before Γ → take behind (drop from env) ≡ map typeBytes Γ′ → many ≡ length ps → take (many + many) (drop (list + 1) image) ≡ flatMap typeBytes ps → Laid image (list + 1 + (many + many)) (flatMap parametersBytes S)
+        → length S ≡ left - 1 → length s - p ≤ f → forget (clauses Σ Θ (statement Σ Θ f) named depth Γ Γ′ i (ps ∷ S) p (drop p s)) ≡ shown s r)
         → Named left i list p r
     unfolding flatMap
     first-named r g = record { is = λ Σ Θ Γ Γ′ S f a b c d e l k. go Σ Θ Γ Γ′ S f a b c d e l k }
@@ -231,7 +228,7 @@ module _ (image sigs labels s : List ℕ) (env : List (List ℕ)) (full : length
               (hi : take (before + many + behind) inner ≡ take (before + many) types ++ take behind (drop from env))
               (z : Walk) (y : RegionIs image sigs labels s inner (before + many + behind) (depth + 1) e₁ z) where
             inner-holds : (Γ Γ′ ps : Environment) → Holds env before Γ → take behind (drop from env) ≡ map typeBytes Γ′ → many ≡ length ps → take (many + many) (drop (list + 1) image) ≡ flatMap typeBytes ps → Holds inner (before + many + behind) (Γ ++ ps ++ Γ′)
-            inner-holds Γ Γ′ ps c d n t = rw (hi, ht Γ ps c t (sym n), d) (map-join (Γ ++ ps) Γ′)
+            inner-holds Γ Γ′ ps c d n t = rw (hi, ht Γ ps c t (sym n), d) (sym (map-append (Γ ++ ps) Γ′))
 
             behind-symbol : e₁ ≡ p + 1
             behind-symbol = (rw g₁ at next) .0
@@ -243,22 +240,33 @@ module _ (image sigs labels s : List ℕ) (env : List (List ℕ)) (full : length
             pub named-bad : (k o : ℕ) → z ≡ Bad k o → Named left i list p (Bad k o)
             unfolding after need shown
             named-bad k o v = first-named (Bad k o) (λ Σ Θ Γ Γ′ ps S f a b c d n t e l w.
-                rw (symbol-read, le-leb (length (Γ ++ ps ++ Γ′)) widest (rw (entries-length Γ Γ′ ps c d n) narrow), lt-ltb depth deepest low,
-                  shown-bad s (inRegion (statement Σ Θ f (suc depth) (Γ ++ ps ++ Γ′)) (p + 1) (drop (p + 1) s)) z k o (region-reads Σ Θ (Γ ++ ps ++ Γ′) f a b (inner-holds Γ Γ′ ps c d n t) w) v))
+                rw (
+                  symbol-read,
+                  le-leb (length (Γ ++ ps ++ Γ′)) widest (rw (entries-length Γ Γ′ ps c d n) narrow),
+                  lt-ltb depth deepest low,
+                  shown-bad s (inRegion (statement Σ Θ f (suc depth) (Γ ++ ps ++ Γ′)) (p + 1) (drop (p + 1) s)) z k o (region-reads Σ Θ (Γ ++ ps ++ Γ′) f a b (inner-holds Γ Γ′ ps c d n t) w) v,
+                ))
 
             pub named-on : (on : ℕ) → z ≡ On on → p ≤ on → (left′ : ℕ) → left′ ≡ left - 1 → (r : Walk) → Named left′ (i + 1) (list + 1 + (many + many)) on r → Named left i list p r
             unfolding after need
             named-on on v w left′ y′ r u = first-named r (λ Σ Θ Γ Γ′ ps S f a b c d n t e l k.
                 with′ (shown-on s (inRegion (statement Σ Θ f (suc depth) (Γ ++ ps ++ Γ′)) (p + 1) (drop (p + 1) s)) z on (region-reads Σ Θ (Γ ++ ps ++ Γ′) f a b (inner-holds Γ Γ′ ps c d n t) k) v) λ m.
-                rw (symbol-read, le-leb (length (Γ ++ ps ++ Γ′)) widest (rw (entries-length Γ Γ′ ps c d n) narrow), lt-ltb depth deepest low, m .1,
-                  forget-after (clauses Σ Θ (statement Σ Θ f) named depth Γ Γ′ (suc i) S on (drop on s)) (λ ds. clause i (m .0) ds))
+                rw (
+                  symbol-read,
+                  le-leb (length (Γ ++ ps ++ Γ′)) widest (rw (entries-length Γ Γ′ ps c d n) narrow),
+                  lt-ltb depth deepest low,
+                  m .1,
+                  forget-after (clauses Σ Θ (statement Σ Θ f) named depth Γ Γ′ (suc i) S on (drop on s)) (λ ds. clause i (m .0) ds),
+                )
                 (rw add-one at (u .is Σ Θ Γ Γ′ S f a b c d e (l ∙ sym y′) (omega arith))))
 
   -- from the signature's count on
   pub named-start : (sig at : ℕ) (r : Walk) → Named (getD image sig 0) 0 (sig + 1) at r → ClausesAre image sigs labels s env before from behind depth sig at r
   unfolding counted
-  named-start sig at r t = record { is = λ Σ Θ Γ Γ′ S f a b c d l k.
-      t .is Σ Θ Γ Γ′ S f a b c d (laid-append image sig (length S ∷ []) (flatMap parametersBytes S) l) (sym (laid-byte image sig (length S) (flatMap parametersBytes S) l)) k }
+  named-start sig at r t = record {
+    is = λ Σ Θ Γ Γ′ S f a b c d l k.
+        t .is Σ Θ Γ Γ′ S f a b c d (laid-append image sig (length S ∷ []) (flatMap parametersBytes S) l) (sym (laid-byte image sig (length S) (flatMap parametersBytes S) l)) k;
+  }
 
 -- the parameter lists that are left stand where the walk is
 pub record ListsFrom (image : List ℕ) (list left : ℕ) : Type 0 where
@@ -269,10 +277,10 @@ pub record ListsFrom (image : List ℕ) (list left : ℕ) : Type 0 where
 pub lists-start : (image : List ℕ) (sig : ℕ) → SignatureAt image sig → ListsFrom image (sig + 1) (getD image sig 0)
 unfolding counted
 lists-start image sig p = record {
-    lists = p .signature;
-    laid = laid-append image sig (length (p .signature) ∷ []) (flatMap parametersBytes (p .signature)) (p .laid);
-    many = sym (laid-byte image sig (length (p .signature)) (flatMap parametersBytes (p .signature)) (p .laid))
-  }
+  lists = p .signature;
+  laid = laid-append image sig (length (p .signature) ∷ []) (flatMap parametersBytes (p .signature)) (p .laid);
+  many = sym (laid-byte image sig (length (p .signature)) (flatMap parametersBytes (p .signature)) (p .laid));
+}
 
 pub lists-next : (image : List ℕ) (list left : ℕ) → (left ≡ 0 → ⊥) → ListsFrom image list left → (list + 1 + (getD image list 0 + getD image list 0) ≤ length image) × ListsFrom image (list + 1 + (getD image list 0 + getD image list 0)) (left - 1)
 unfolding flatMap
@@ -312,8 +320,10 @@ module _ (image sigs labels s : List ℕ) (env : List (List ℕ)) (full : length
       extern-argument n o y = go (rw e at h) args-read
         where
           go : {next args many gained : ℕ} → OperationIs s at (TakesKnown next args many gained) → ((Δ : Environment) → Holds env width Δ → forget (times args (argument Δ) next (drop next s)) ≡ shown s x) → ExternIs image sigs labels s env width depth at (Bad n o)
-          go (operationIs {next = next} op r a b c d l) t = record { is = λ Σ Θ Δ u f p₁ p₂ k w.
-              rw (r, shown-bad s (times (length (arguments op)) (argument Δ) next (drop next s)) x n o (rw (← c) at (t Δ k)) y) }
+          go (operationIs {next = next} op r a b c d l) t = record {
+            is = λ Σ Θ Δ u f p₁ p₂ k w.
+                rw (r, shown-bad s (times (length (arguments op)) (argument Δ) next (drop next s)) x n o (rw (← c) at (t Δ k)) y);
+          }
 
       pub extern-goes : (p : ℕ) → x ≡ On p → next ≤ p → (e′ : List (List ℕ)) → GainIs env width gained e′ → (r : Walk) → BareAre image sigs labels s e′ (width + gained) depth many p r → ExternIs image sigs labels s env width depth at r
       unfolding after
@@ -321,11 +331,13 @@ module _ (image sigs labels s : List ℕ) (env : List (List ℕ)) (full : length
         where
           go : {next args many gained : ℕ} → OperationIs s at (TakesKnown next args many gained) → ((Δ : Environment) → Holds env width Δ → forget (times args (argument Δ) next (drop next s)) ≡ shown s x) → next ≤ p → GainIs env width gained e′
               → BareAre image sigs labels s e′ (width + gained) depth many p r → ExternIs image sigs labels s env width depth at r
-          go (operationIs {next = next} {many = many} {gained = gained} op o a b c d l) t z g v = record { is = λ Σ Θ Δ u f p₁ p₂ k w.
-              with′ (shown-on s (times (length (arguments op)) (argument Δ) next (drop next s)) x p (rw (← c) at (t Δ k)) y) λ m.
-              let n : length (Δ ++ replicate gained ext) ≡ width + gained = rw (length-append, length-replicate, holds-length env full width narrow Δ k) in
-              rw (o, m .1, d, forget-after (clauses Σ Θ (statement Σ Θ f) bare depth Δ [] 0 (replicate many (replicate gained ext)) p (drop p s)) (λ cs. extern op (m .0) cs))
-                (v .is Σ Θ Δ (Δ ++ replicate gained ext) (replicate many (replicate gained ext)) 0 f p₁ p₂ (replicate-all Δ (replicate gained ext) (Δ ++ replicate gained ext) many (append-nil (Δ ++ replicate gained ext))) (length-replicate many (replicate gained ext)) n (g .is Δ k) (omega arith)) }
+          go (operationIs {next = next} {many = many} {gained = gained} op o a b c d l) t z g v = record {
+            is = λ Σ Θ Δ u f p₁ p₂ k w.
+                with′ (shown-on s (times (length (arguments op)) (argument Δ) next (drop next s)) x p (rw (← c) at (t Δ k)) y) λ m.
+                let n : length (Δ ++ replicate gained ext) ≡ width + gained = rw (length-append, length-replicate, holds-length env full width narrow Δ k) in
+                rw (o, m .1, d, forget-after (clauses Σ Θ (statement Σ Θ f) bare depth Δ [] 0 (replicate many (replicate gained ext)) p (drop p s)) (λ cs. extern op (m .0) cs))
+                (v .is Σ Θ Δ (Δ ++ replicate gained ext) (replicate many (replicate gained ext)) 0 f p₁ p₂ (replicate-all Δ (replicate gained ext) (Δ ++ replicate gained ext) many (append-nil (Δ ++ replicate gained ext))) (length-replicate many (replicate gained ext)) n (g .is Δ k) (omega arith));
+          }
 
 -- ---- what the loops over clauses need
 

@@ -1,17 +1,15 @@
 -- Statements that follow one another in a region: what a form answers, its statement answers; what answers from a remainder on, answers from the statement on. Assumes nothing.
 use Prim.Native.Nat.{ℕ, zero, suc, _+_, _-_, _≤_, _<_}
-use mathlib.Core.Path.{_≡_, refl, ap, sym, _∙_}
+use mathlib.Core.Path.{_≡_, refl, _∙_}
 use mathlib.Core.List.{List, [], _∷_, _++_, map}
-use mathlib.Core.Bool.{Bool, true, false}
 use native.Mathlib.Omega.{arith}
-use lib.ListN.{length, getD, getElem?, take, drop, length-append}
+use lib.ListN.{length, getD, getElem?, drop, length-append}
 use borrow.Author.Tests.{le-leb, lt-leb}
 use Rattle.definitions.specs.Limits.{widest}
-use Rattle.definitions.specs.Terms.{Ty, prd, cns, Environment, Signature, Statement, new}
-use Rattle.definitions.specs.Typing.{At}
+use Rattle.definitions.specs.Terms.{Ty, prd, cns, Environment, Signature, new}
 use Rattle.definitions.specs.Layout.{typeBytes, named}
 use Rattle.definitions.specs.Ends.{front, back}
-use Rattle.definitions.specs.Reader.{fault, Read, got, refused, Reader, after, need, the, byte, times, known}
+use Rattle.definitions.specs.Reader.{fault, got, refused, after, need, the, times, known}
 use Rattle.definitions.specs.Reader as Reader′
 use Rattle.definitions.specs.FirstFault as FirstFault
 use Rattle.definitions.specs.FirstFault.{forms, clauses, statement}
@@ -23,7 +21,7 @@ use Rattle.checker.specs.declared.Name.the-variants.{Is, Not}
 use Rattle.checker.specs.declared.Step.{Step}
 use Rattle.checker.specs.declared.Step.the-variants.{To, Fails}
 use Rattle.checker.specs.Shown.{forget, shown}
-use Rattle.checker.specs.Laid.{Laid, Holds, Placed, Known, parametersBytes, signatureBytes, SignatureAt}
+use Rattle.checker.specs.Laid.{Holds, Placed, Known, parametersBytes, signatureBytes, SignatureAt}
 use Rattle.checker.specs.Entries.{Below}
 use Rattle.checker.specs.Forms.{Inner, JumpIs, InvokeIs, LetIs, letGoes, letFails, NewIs, newGoes, newFails, SwitchIs, switchGoes, switchFails, SubstituteIs, substituteGoes, substituteFails}
 use Rattle.checker.specs.Statements.{StatementIs, ClausesAre, ExternIs}
@@ -48,7 +46,7 @@ module _ (image sigs labels s : List ℕ) (depth : ℕ) where
     -- the form that a code stands for
     coded : (c : ℕ) → getD s p 0 ≡ c → (r : Walk)
         → ((Σ : List Signature) (Θ : List Environment) (Δ : Environment) (f : ℕ) → Placed signatureBytes image sigs Σ → Placed parametersBytes image labels Θ → Holds env width Δ → length s - (p + 1) ≤ f
-          → forget (after (the (getElem? (forms Σ Θ (statement Σ Θ f)) c) 6 p (p + 1) (drop (p + 1) s)) (λ form. form p depth Δ)) ≡ shown s r)
+        → forget (after (the (getElem? (forms Σ Θ (statement Σ Θ f)) c) 6 p (p + 1) (drop (p + 1) s)) (λ form. form p depth Δ)) ≡ shown s r)
         → Answers env width p r
     unfolding after
     coded c e r g = record { is = λ Σ Θ Δ f a b k w. go Σ Θ Δ f a b k w }
@@ -179,8 +177,8 @@ module _ (image sigs labels s : List ℕ) (depth : ℕ) where
           -- the clauses' reader, and what follows it
           after-clauses : (r : Walk)
               → ((Σ : List Signature) (Θ : List Environment) (Δ : Environment) (f : ℕ) (S : Signature) → Placed signatureBytes image sigs Σ → Placed parametersBytes image labels Θ → Holds env width Δ → captures ≤ width → length s - (p + 1) ≤ f
-                → forget (clauses Σ Θ (statement Σ Θ f) named depth [] (back Δ captures) 0 S (p + 1 + 1 + 1 + 1) (drop (p + 1 + 1 + 1 + 1) s)) ≡ shown s x
-                → forget (after (clauses Σ Θ (statement Σ Θ f) named depth [] (back Δ captures) 0 S (p + 1 + 1 + 1 + 1) (drop (p + 1 + 1 + 1 + 1) s)) (λ cs. Reader′._>>_ (need (FirstFault.fits (front Δ captures ++ (cns (getD s (p + 1) 0) ∷ []))) 5 p) (Reader′._>>=_ (statement Σ Θ f depth (front Δ captures ++ (cns (getD s (p + 1) 0) ∷ []))) (λ u. Reader′.give (new (getD s (p + 1) 0) captures cs u))))) ≡ shown s r)
+              → forget (clauses Σ Θ (statement Σ Θ f) named depth [] (back Δ captures) 0 S (p + 1 + 1 + 1 + 1) (drop (p + 1 + 1 + 1 + 1) s)) ≡ shown s x
+              → forget (after (clauses Σ Θ (statement Σ Θ f) named depth [] (back Δ captures) 0 S (p + 1 + 1 + 1 + 1) (drop (p + 1 + 1 + 1 + 1) s)) (λ cs. Reader′._>>_ (need (FirstFault.fits (front Δ captures ++ (cns (getD s (p + 1) 0) ∷ []))) 5 p) (Reader′._>>=_ (statement Σ Θ f depth (front Δ captures ++ (cns (getD s (p + 1) 0) ∷ []))) (λ u. Reader′.give (new (getD s (p + 1) 0) captures cs u))))) ≡ shown s r)
               → Answers env width p r
           unfolding after the
           after-clauses r g = coded 4 c r (λ Σ Θ Δ f a b k w. go (rw e at h) Σ Θ f a b Δ k w t g)
@@ -188,8 +186,8 @@ module _ (image sigs labels s : List ℕ) (depth : ℕ) where
               go : {sig captures : ℕ} → NewIs image sigs s width p (To sig captures) → (Σ : List Signature) (Θ : List Environment) (f : ℕ) → Placed signatureBytes image sigs Σ → Placed parametersBytes image labels Θ → (Δ : Environment) → Holds env width Δ → length s - (p + 1) ≤ f
                   → ClausesAre image sigs labels s env 0 (width - captures) captures depth sig (p + 1 + 1 + 1 + 1) x
                   → ((Σ : List Signature) (Θ : List Environment) (Δ : Environment) (f : ℕ) (S : Signature) → Placed signatureBytes image sigs Σ → Placed parametersBytes image labels Θ → Holds env width Δ → captures ≤ width → length s - (p + 1) ≤ f
-                    → forget (clauses Σ Θ (statement Σ Θ f) named depth [] (back Δ captures) 0 S (p + 1 + 1 + 1 + 1) (drop (p + 1 + 1 + 1 + 1) s)) ≡ shown s x
-                    → forget (after (clauses Σ Θ (statement Σ Θ f) named depth [] (back Δ captures) 0 S (p + 1 + 1 + 1 + 1) (drop (p + 1 + 1 + 1 + 1) s)) (λ cs. Reader′._>>_ (need (FirstFault.fits (front Δ captures ++ (cns (getD s (p + 1) 0) ∷ []))) 5 p) (Reader′._>>=_ (statement Σ Θ f depth (front Δ captures ++ (cns (getD s (p + 1) 0) ∷ []))) (λ u. Reader′.give (new (getD s (p + 1) 0) captures cs u))))) ≡ shown s r)
+                  → forget (clauses Σ Θ (statement Σ Θ f) named depth [] (back Δ captures) 0 S (p + 1 + 1 + 1 + 1) (drop (p + 1 + 1 + 1 + 1) s)) ≡ shown s x
+                  → forget (after (clauses Σ Θ (statement Σ Θ f) named depth [] (back Δ captures) 0 S (p + 1 + 1 + 1 + 1) (drop (p + 1 + 1 + 1 + 1) s)) (λ cs. Reader′._>>_ (need (FirstFault.fits (front Δ captures ++ (cns (getD s (p + 1) 0) ∷ []))) 5 p) (Reader′._>>=_ (statement Σ Θ f depth (front Δ captures ++ (cns (getD s (p + 1) 0) ∷ []))) (λ u. Reader′.give (new (getD s (p + 1) 0) captures cs u))))) ≡ shown s r)
                   → forget (FirstFault.aNew Σ Θ (statement Σ Θ f) p depth Δ (p + 1) (drop (p + 1) s)) ≡ shown s r
               go (newGoes {captures = captures} y z v i u) Σ Θ f a b Δ k w t g =
                   with′ (u Σ Θ (statement Σ Θ f) depth Δ a (holds-length env full width narrow Δ k)) λ m.
@@ -217,8 +215,11 @@ module _ (image sigs labels s : List ℕ) (depth : ℕ) where
             unfolding after need
             new-on z i out g r t = after-clauses r (λ Σ Θ Δ f S a b k l w u.
                 with′ (shown-on s (clauses Σ Θ (statement Σ Θ f) named depth [] (back Δ captures) 0 S (p + 1 + 1 + 1 + 1) (drop (p + 1 + 1 + 1 + 1) s)) x on u y) λ m.
-                rw (m .1, le-leb (length (front Δ captures ++ (cns (getD s (p + 1) 0) ∷ []))) widest (rw (rest-length Δ (cns (getD s (p + 1) 0)) k l) (not-32 (width - captures) (omega arith) z)),
-                  forget-after (statement Σ Θ f depth (front Δ captures ++ (cns (getD s (p + 1) 0) ∷ [])) on (drop on s)) (λ v. new (getD s (p + 1) 0) captures (m .0) v))
+                rw (
+                  m .1,
+                  le-leb (length (front Δ captures ++ (cns (getD s (p + 1) 0) ∷ []))) widest (rw (rest-length Δ (cns (getD s (p + 1) 0)) k l) (not-32 (width - captures) (omega arith) z)),
+                  forget-after (statement Σ Θ f depth (front Δ captures ++ (cns (getD s (p + 1) 0) ∷ [])) on (drop on s)) (λ v. new (getD s (p + 1) 0) captures (m .0) v),
+                )
                 (t .is Σ Θ (front Δ captures ++ (cns (getD s (p + 1) 0) ∷ [])) f a b (g (front Δ captures) (cns (getD s (p + 1) 0)) (holds-front env full width narrow Δ k captures l) refl) (omega arith)))
               where
                 not-32 : (n : ℕ) → n ≤ 32 → (n ≡ 32 → ⊥) → suc n ≤ 32

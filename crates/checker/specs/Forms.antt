@@ -1,15 +1,14 @@
 -- What the tests of each form answer, whatever reads the statements inside it.
-use Prim.Native.Nat.{ℕ, suc, _+_, _<_, _≤_}
+use Prim.Native.Nat.{ℕ, _+_, _<_, _≤_}
 use mathlib.Core.Path.{_≡_}
 use mathlib.Core.List.{List, [], _∷_, _++_, map}
 use lib.ListN.{length, getD, drop, replicate}
-use Rattle.definitions.specs.Limits.{widest}
-use Rattle.definitions.specs.Terms.{Ty, prd, cns, ext, Environment, Signature, Operation, Statement, Clauses, new, switch}
-use Rattle.definitions.specs.Typing.{At, arguments, gains}
+use Rattle.definitions.specs.Terms.{Ty, prd, cns, ext, Environment, Signature, Operation, Statement, new, switch}
+use Rattle.definitions.specs.Typing.{arguments, gains}
 use mathlib.Core.Bool.{Bool, true}
 use Rattle.definitions.specs.Layout.{named, typeBytes}
 use Rattle.definitions.specs.Ends.{front, back}
-use Rattle.definitions.specs.Reader.{fault, Read, got, refused, Reader, after, need, times, known, _>>=_, _>>_, give}
+use Rattle.definitions.specs.Reader.{fault, got, refused, Reader, after, need, times, known, _>>=_, _>>_, give}
 use Rattle.definitions.specs.FirstFault.{operation, clauses, fits, sameTypes, aJump, aSubstitute, aLet, aNew, aSwitch, anInvoke}
 use Rattle.checker.specs.declared.Walk.{Walk}
 use Rattle.checker.specs.declared.Name.{Name}
@@ -46,36 +45,36 @@ pub record InvokeIs (image sigs s : List ℕ) (env : List (List ℕ)) (width at 
 pub data LetIs (image sigs s : List ℕ) (env : List (List ℕ)) (width at : ℕ) : Step → Type 0 where
   letGoes : {on kept : ℕ} → on ≡ at + 1 + 1 + 1 → on ≤ length s → kept ≤ width → kept < 32
       → ((Σ : List Signature) (Θ : List Environment) (inner : Inner) (d : ℕ) (Δ : Environment) → Placed signatureBytes image sigs Σ → Holds env width Δ
-        → (Γ : Environment) × Holds env kept Γ × (forget (aLet Σ Θ inner at d Δ (at + 1) (drop (at + 1) s)) ≡ forget (inner d (Γ ++ (prd (getD s (at + 1) 0) ∷ [])) on (drop on s))))
+      → (Γ : Environment) × Holds env kept Γ × (forget (aLet Σ Θ inner at d Δ (at + 1) (drop (at + 1) s)) ≡ forget (inner d (Γ ++ (prd (getD s (at + 1) 0) ∷ [])) on (drop on s))))
       → LetIs image sigs s env width at (To on kept)
   letFails : {n o : ℕ}
       → ((Σ : List Signature) (Θ : List Environment) (inner : Inner) (d : ℕ) (Δ : Environment) → Placed signatureBytes image sigs Σ → Holds env width Δ
-        → forget (aLet Σ Θ inner at d Δ (at + 1) (drop (at + 1) s)) ≡ refused (fault n o))
+      → forget (aLet Σ Θ inner at d Δ (at + 1) (drop (at + 1) s)) ≡ refused (fault n o))
       → LetIs image sigs s env width at (Fails n o)
 
 -- new, up to its clauses: the offset of its signature, and how many entries it captures
 pub data NewIs (image sigs s : List ℕ) (width at : ℕ) : Step → Type 0 where
   newGoes : {sig captures : ℕ} → at + 1 + 1 + 1 + 1 ≤ length s → captures ≤ width → sig ≡ getD sigs (getD s (at + 1) 0) 0 → getD s (at + 1) 0 < length sigs
       → ((Σ : List Signature) (Θ : List Environment) (inner : Inner) (d : ℕ) (Δ : Environment) → Placed signatureBytes image sigs Σ → length Δ ≡ width
-        → (S : Signature) × Laid image sig (signatureBytes S)
-          × (forget (aNew Σ Θ inner at d Δ (at + 1) (drop (at + 1) s)) ≡ forget (after (clauses Σ Θ inner named d [] (back Δ captures) 0 S (at + 1 + 1 + 1 + 1) (drop (at + 1 + 1 + 1 + 1) s)) (λ cs.
-            need (fits (front Δ captures ++ (cns (getD s (at + 1) 0) ∷ []))) 5 at >> (inner d (front Δ captures ++ (cns (getD s (at + 1) 0) ∷ [])) >>= (λ u. give (new (getD s (at + 1) 0) captures cs u)))))))
+      → (S : Signature) × Laid image sig (signatureBytes S)
+      × (forget (aNew Σ Θ inner at d Δ (at + 1) (drop (at + 1) s)) ≡ forget (after (clauses Σ Θ inner named d [] (back Δ captures) 0 S (at + 1 + 1 + 1 + 1) (drop (at + 1 + 1 + 1 + 1) s)) (λ cs.
+      need (fits (front Δ captures ++ (cns (getD s (at + 1) 0) ∷ []))) 5 at >> (inner d (front Δ captures ++ (cns (getD s (at + 1) 0) ∷ [])) >>= (λ u. give (new (getD s (at + 1) 0) captures cs u)))))))
       → NewIs image sigs s width at (To sig captures)
   newFails : {n o : ℕ}
       → ((Σ : List Signature) (Θ : List Environment) (inner : Inner) (d : ℕ) (Δ : Environment) → Placed signatureBytes image sigs Σ → length Δ ≡ width
-        → forget (aNew Σ Θ inner at d Δ (at + 1) (drop (at + 1) s)) ≡ refused (fault n o))
+      → forget (aNew Σ Θ inner at d Δ (at + 1) (drop (at + 1) s)) ≡ refused (fault n o))
       → NewIs image sigs s width at (Fails n o)
 
 -- switch, up to its clauses: the offset of its signature
 pub data SwitchIs (image sigs s : List ℕ) (env : List (List ℕ)) (width at : ℕ) : Name → Type 0 where
   switchGoes : {sig : ℕ} → at + 1 + 1 + 1 ≤ length s → 1 ≤ width → sig ≡ getD sigs (getD s (at + 1) 0) 0 → getD s (at + 1) 0 < length sigs
       → ((Σ : List Signature) (Θ : List Environment) (inner : Inner) (d : ℕ) (Δ : Environment) → Placed signatureBytes image sigs Σ → Holds env width Δ
-        → (S : Signature) × Laid image sig (signatureBytes S)
-          × (forget (aSwitch Σ Θ inner at d Δ (at + 1) (drop (at + 1) s)) ≡ forget (clauses Σ Θ inner named d (front Δ 1) [] 0 S (at + 1 + 1 + 1) (drop (at + 1 + 1 + 1) s))))
+      → (S : Signature) × Laid image sig (signatureBytes S)
+      × (forget (aSwitch Σ Θ inner at d Δ (at + 1) (drop (at + 1) s)) ≡ forget (clauses Σ Θ inner named d (front Δ 1) [] 0 S (at + 1 + 1 + 1) (drop (at + 1 + 1 + 1) s))))
       → SwitchIs image sigs s env width at (Is sig)
   switchFails : {n o : ℕ}
       → ((Σ : List Signature) (Θ : List Environment) (inner : Inner) (d : ℕ) (Δ : Environment) → Placed signatureBytes image sigs Σ → Holds env width Δ
-        → forget (aSwitch Σ Θ inner at d Δ (at + 1) (drop (at + 1) s)) ≡ refused (fault n o))
+      → forget (aSwitch Σ Θ inner at d Δ (at + 1) (drop (at + 1) s)) ≡ refused (fault n o))
       → SwitchIs image sigs s env width at (Not n o)
 
 -- a last entry of a kind and a number
@@ -87,12 +86,12 @@ pub record LastIs (env : List (List ℕ)) (width kind number : ℕ) (r : Bool) :
 pub data SubstituteIs (s : List ℕ) (width at : ℕ) : Step → Type 0 where
   substituteGoes : {on count : ℕ} → on ≡ at + 1 + 1 + count → on ≤ length s → count ≤ 32 → Below s (at + 1 + 1) count width
       → ((Σ : List Signature) (Θ : List Environment) (inner : Inner) (d : ℕ) (Δ : Environment) → length Δ ≡ width
-        → (l : List (ℕ × Ty)) × (times count (known Δ) (at + 1 + 1) (drop (at + 1 + 1) s) ≡ got l (at + 1 + 1 + count) (drop (at + 1 + 1 + count) s))
-          × (forget (aSubstitute Σ Θ inner at d Δ (at + 1) (drop (at + 1) s)) ≡ forget (inner d (map (λ p. p .1) l) on (drop on s))))
+      → (l : List (ℕ × Ty)) × (times count (known Δ) (at + 1 + 1) (drop (at + 1 + 1) s) ≡ got l (at + 1 + 1 + count) (drop (at + 1 + 1 + count) s))
+      × (forget (aSubstitute Σ Θ inner at d Δ (at + 1) (drop (at + 1) s)) ≡ forget (inner d (map (λ p. p .1) l) on (drop on s))))
       → SubstituteIs s width at (To on count)
   substituteFails : {n o : ℕ}
       → ((Σ : List Signature) (Θ : List Environment) (inner : Inner) (d : ℕ) (Δ : Environment) → length Δ ≡ width
-        → forget (aSubstitute Σ Θ inner at d Δ (at + 1) (drop (at + 1) s)) ≡ refused (fault n o))
+      → forget (aSubstitute Σ Θ inner at d Δ (at + 1) (drop (at + 1) s)) ≡ refused (fault n o))
       → SubstituteIs s width at (Fails n o)
 
 -- an operation with its literal

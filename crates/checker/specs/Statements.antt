@@ -1,5 +1,5 @@
 -- What the walks over statements, clauses and regions answer: the reader's answer, at every bound that is at least the bytes left.
-use Prim.Native.Nat.{ℕ, suc, _+_, _-_, _≤_}
+use Prim.Native.Nat.{ℕ, _+_, _-_, _≤_}
 use mathlib.Core.Path.{_≡_}
 use mathlib.Core.List.{List, [], _++_, map, flatMap}
 use lib.ListN.{length, take, drop, replicate}

@@ -12,13 +12,13 @@ ghost use Rattle.definitions.specs.Reader.{expected};
 ghost use Rattle.checker.specs.Laid.{Laid, Holds, Known, SignatureAt, ParametersAt, parametersBytes, signatureBytes};
 ghost use Rattle.checker.specs.Shown.{forget, shown, Within, Next};
 ghost use Rattle.checker.specs.Forms.{NameIs, JumpIs, InvokeIs, LetIs, NewIs, SwitchIs, SubstituteIs, OperationIs, LastIs};
-use crate::Walk;
 use crate::Name;
 use crate::Step;
 use crate::Takes;
+use crate::Walk;
+use crate::entries::positions;
 use crate::entries::same_types;
 use crate::entries::symbol_at;
-use crate::entries::positions;
 use crate::types::Type;
 
 // The byte at `at`, which names one of `many` things: 3, then 7.
@@ -77,7 +77,14 @@ pub(crate) fn ends_with(image: &[u8], env: [[u8; 2]; 32], width: usize, list: us
 }
 
 // jump, of which the code stands at `at`.
-pub(crate) fn jump(image: &[u8], labels: &[usize], s: &[u8], env: [[u8; 2]; 32], width: usize, at: usize) -> Walk
+pub(crate) fn jump(
+    image: &[u8],
+    labels: &[usize],
+    s: &[u8],
+    env: [[u8; 2]; 32],
+    width: usize,
+    at: usize,
+) -> Walk
     requires { ⌜ (at < length (now s)) × ((width ≤ 32) × Known parametersBytes (now image) (now labels)) ⌝ }
     ensures within { λ r. ⌜ Within at (now (s .entry)) r ⌝ }
     ensures { λ r. ⌜ JumpIs (now (image .entry)) (now (labels .entry)) (now (s .entry)) env width at r ⌝ }
@@ -94,7 +101,14 @@ pub(crate) fn jump(image: &[u8], labels: &[usize], s: &[u8], env: [[u8; 2]; 32],
 }
 
 // let, up to its remainder: where that stands, and how many entries are kept.
-pub(crate) fn let_head(image: &[u8], sigs: &[usize], s: &[u8], env: [[u8; 2]; 32], width: usize, at: usize) -> Step
+pub(crate) fn let_head(
+    image: &[u8],
+    sigs: &[usize],
+    s: &[u8],
+    env: [[u8; 2]; 32],
+    width: usize,
+    at: usize,
+) -> Step
     requires { ⌜ (at < length (now s)) × ((width ≤ 32) × ((length (now image) ≤ 16384) × Known signatureBytes (now image) (now sigs))) ⌝ }
     ensures { λ r. ⌜ LetIs (now (image .entry)) (now (sigs .entry)) (now (s .entry)) env width at r ⌝ }
 {
@@ -161,7 +175,14 @@ pub(crate) fn last_is(env: [[u8; 2]; 32], width: usize, kind: u8, number: u8) ->
 }
 
 // switch, up to its clauses: the offset of its signature.
-pub(crate) fn switch_head(image: &[u8], sigs: &[usize], s: &[u8], env: [[u8; 2]; 32], width: usize, at: usize) -> Name
+pub(crate) fn switch_head(
+    image: &[u8],
+    sigs: &[usize],
+    s: &[u8],
+    env: [[u8; 2]; 32],
+    width: usize,
+    at: usize,
+) -> Name
     requires { ⌜ (at < length (now s)) × ((width ≤ 32) × Known signatureBytes (now image) (now sigs)) ⌝ }
     ensures { λ r. ⌜ SwitchIs (now (image .entry)) (now (sigs .entry)) (now (s .entry)) env width at r ⌝ }
 {
@@ -234,7 +255,14 @@ fn wide(x: u8) -> usize
 }
 
 // invoke, of which the code stands at `at`.
-pub(crate) fn invoke(image: &[u8], sigs: &[usize], s: &[u8], env: [[u8; 2]; 32], width: usize, at: usize) -> Walk
+pub(crate) fn invoke(
+    image: &[u8],
+    sigs: &[usize],
+    s: &[u8],
+    env: [[u8; 2]; 32],
+    width: usize,
+    at: usize,
+) -> Walk
     requires { ⌜ (at < length (now s)) × ((width ≤ 32) × ((length (now image) ≤ 16384) × Known signatureBytes (now image) (now sigs))) ⌝ }
     ensures within { λ r. ⌜ Within at (now (s .entry)) r ⌝ }
     ensures { λ r. ⌜ InvokeIs (now (image .entry)) (now (sigs .entry)) (now (s .entry)) env width at r ⌝ }

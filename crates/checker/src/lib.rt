@@ -11,25 +11,25 @@ mod types;
 mod whole;
 
 // Where a walk over a region goes on, or the number and offset of its first fault.
-pub enum Walk {
+pub(crate) enum Walk {
     On(usize),
     Bad(u8, usize),
 }
 
 // A number that names one of so many things, or the fault.
-pub enum Name {
+pub(crate) enum Name {
     Is(usize),
     Not(u8, usize),
 }
 
 // Where a statement that goes on ends, and a number that it gives: a width or a count; or the fault.
-pub enum Step {
+pub(crate) enum Step {
     To(usize, usize),
     Fails(u8, usize),
 }
 
 // Where an operation's arguments stand, how many they are, how many clauses follow, and how many integers each gains; or the fault.
-pub enum Takes {
+pub(crate) enum Takes {
     Known(usize, usize, usize, usize),
     Unknown(u8, usize),
 }

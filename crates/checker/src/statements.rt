@@ -5,10 +5,10 @@ ghost use lib.ListN.{length, getD, take, drop};
 ghost use Rattle.checker.specs.Laid.{Known, SignatureAt, signatureBytes, parametersBytes};
 ghost use Rattle.checker.specs.Shown.{forget, shown, Within};
 ghost use Rattle.checker.specs.Statements.{StatementIs, RegionIs, ClausesAre, BareAre, ExternIs, GainIs};
-use crate::Walk;
 use crate::Name;
 use crate::Step;
 use crate::Takes;
+use crate::Walk;
 use crate::entries::arguments;
 use crate::entries::gather;
 use crate::entries::push;
@@ -40,7 +40,16 @@ fn gain(env: [[u8; 2]; 32], width: usize, gained: usize) -> [[u8; 2]; 32]
 }
 
 // The statement at `at` of the region s, `depth` clauses deep, with an environment of `width` entries.
-pub(crate) fn stmt(image: &[u8], sigs: &[usize], labels: &[usize], s: &[u8], env: [[u8; 2]; 32], width: usize, depth: usize, at: usize) -> Walk
+pub(crate) fn stmt(
+    image: &[u8],
+    sigs: &[usize],
+    labels: &[usize],
+    s: &[u8],
+    env: [[u8; 2]; 32],
+    width: usize,
+    depth: usize,
+    at: usize,
+) -> Walk
     requires { ⌜ (at ≤ length (now s)) × ((width ≤ 32) × ((depth ≤ 48) × ((length (now image) ≤ 16384) × ((Known signatureBytes (now image) (now sigs) × Known parametersBytes (now image) (now labels)))))) ⌝ }
     ensures within { λ r. ⌜ Within at (now (s .entry)) r ⌝ }
     ensures { λ r. ⌜ StatementIs (now (image .entry)) (now (sigs .entry)) (now (labels .entry)) (now (s .entry)) env width depth at r ⌝ }
@@ -87,7 +96,19 @@ pub(crate) fn stmt(image: &[u8], sigs: &[usize], labels: &[usize], s: &[u8], env
             4 => match new_head(image, sigs, s, w, p) {
                 Step::To(sig, captures) => {
                     let kept = w - captures;
-                    match clauses(image, sigs, labels, s, e, 0, kept, captures, depth, p + 1 + 1 + 1 + 1, sig) {
+                    match clauses(
+                        image,
+                        sigs,
+                        labels,
+                        s,
+                        e,
+                        0,
+                        kept,
+                        captures,
+                        depth,
+                        p + 1 + 1 + 1 + 1,
+                        sig,
+                    ) {
                         Walk::On(on) => {
                             if kept == 32 {
                                 return Walk::Bad(5, p);
@@ -110,7 +131,19 @@ pub(crate) fn stmt(image: &[u8], sigs: &[usize], labels: &[usize], s: &[u8], env
             },
             5 => match switch_head(image, sigs, s, e, w, p) {
                 Name::Is(sig) => {
-                    return clauses(image, sigs, labels, s, e, w - 1, 0, 0, depth, p + 1 + 1 + 1, sig);
+                    return clauses(
+                        image,
+                        sigs,
+                        labels,
+                        s,
+                        e,
+                        w - 1,
+                        0,
+                        0,
+                        depth,
+                        p + 1 + 1 + 1,
+                        sig,
+                    );
                 }
                 Name::Not(n, o) => {
                     return Walk::Bad(n, o);
@@ -127,7 +160,16 @@ pub(crate) fn stmt(image: &[u8], sigs: &[usize], labels: &[usize], s: &[u8], env
 }
 
 // extern, of which the operation stands at `at`.
-fn extern_(image: &[u8], sigs: &[usize], labels: &[usize], s: &[u8], env: [[u8; 2]; 32], width: usize, depth: usize, at: usize) -> Walk
+fn extern_(
+    image: &[u8],
+    sigs: &[usize],
+    labels: &[usize],
+    s: &[u8],
+    env: [[u8; 2]; 32],
+    width: usize,
+    depth: usize,
+    at: usize,
+) -> Walk
     requires { ⌜ (at ≤ length (now s)) × ((width ≤ 32) × ((depth ≤ 48) × ((length (now image) ≤ 16384) × ((Known signatureBytes (now image) (now sigs) × Known parametersBytes (now image) (now labels)))))) ⌝ }
     ensures within { λ r. ⌜ Within at (now (s .entry)) r ⌝ }
     ensures { λ r. ⌜ ExternIs (now (image .entry)) (now (sigs .entry)) (now (labels .entry)) (now (s .entry)) env width depth at r ⌝ }
@@ -145,7 +187,17 @@ fn extern_(image: &[u8], sigs: &[usize], labels: &[usize], s: &[u8], env: [[u8; 
 }
 
 // `many` clauses without symbol byte from `at` on, each with the environment of `width` entries.
-fn bare_clauses(image: &[u8], sigs: &[usize], labels: &[usize], s: &[u8], env: [[u8; 2]; 32], width: usize, depth: usize, at: usize, many: usize) -> Walk
+fn bare_clauses(
+    image: &[u8],
+    sigs: &[usize],
+    labels: &[usize],
+    s: &[u8],
+    env: [[u8; 2]; 32],
+    width: usize,
+    depth: usize,
+    at: usize,
+    many: usize,
+) -> Walk
     requires { ⌜ (at ≤ length (now s)) × ((width ≤ 33) × ((depth ≤ 48) × ((length (now image) ≤ 16384) × ((Known signatureBytes (now image) (now sigs) × Known parametersBytes (now image) (now labels)))))) ⌝ }
     ensures within { λ r. ⌜ Within at (now (s .entry)) r ⌝ }
     ensures { λ r. ⌜ BareAre (now (image .entry)) (now (sigs .entry)) (now (labels .entry)) (now (s .entry)) env width depth many at r ⌝ }
@@ -173,7 +225,19 @@ fn bare_clauses(image: &[u8], sigs: &[usize], labels: &[usize], s: &[u8], env: [
 }
 
 // The clauses from `at` on, one for each symbol of the signature at `sig`: each starts with the first `before` entries, its symbol's parameters, and the `behind` entries from `from` on.
-fn clauses(image: &[u8], sigs: &[usize], labels: &[usize], s: &[u8], env: [[u8; 2]; 32], before: usize, from: usize, behind: usize, depth: usize, at: usize, sig: usize) -> Walk
+fn clauses(
+    image: &[u8],
+    sigs: &[usize],
+    labels: &[usize],
+    s: &[u8],
+    env: [[u8; 2]; 32],
+    before: usize,
+    from: usize,
+    behind: usize,
+    depth: usize,
+    at: usize,
+    sig: usize,
+) -> Walk
     requires { ⌜ (at ≤ length (now s)) × ((before ≤ 32) × ((from + behind ≤ 32) × ((depth ≤ 48) × ((length (now image) ≤ 16384) × ((SignatureAt (now image) sig) × ((Known signatureBytes (now image) (now sigs) × Known parametersBytes (now image) (now labels)))))))) ⌝ }
     ensures within { λ r. ⌜ Within at (now (s .entry)) r ⌝ }
     ensures { λ r. ⌜ ClausesAre (now (image .entry)) (now (sigs .entry)) (now (labels .entry)) (now (s .entry)) env before from behind depth sig at r ⌝ }
@@ -194,7 +258,16 @@ fn clauses(image: &[u8], sigs: &[usize], labels: &[usize], s: &[u8], env: [[u8; 
                 }
                 let types = put_types(env, before, image, list + 1, n);
                 let inner = put_entries(types, before + n, env, from, behind);
-                match region(image, sigs, labels, s, inner, before + n + behind, depth + 1, next) {
+                match region(
+                    image,
+                    sigs,
+                    labels,
+                    s,
+                    inner,
+                    before + n + behind,
+                    depth + 1,
+                    next,
+                ) {
                     Walk::On(on) => {
                         p = on;
                     }
@@ -214,7 +287,16 @@ fn clauses(image: &[u8], sigs: &[usize], labels: &[usize], s: &[u8], env: [[u8; 
 }
 
 // The region of which the length field stands at `at`, filled by one statement.
-pub(crate) fn region(image: &[u8], sigs: &[usize], labels: &[usize], s: &[u8], env: [[u8; 2]; 32], width: usize, depth: usize, at: usize) -> Walk
+pub(crate) fn region(
+    image: &[u8],
+    sigs: &[usize],
+    labels: &[usize],
+    s: &[u8],
+    env: [[u8; 2]; 32],
+    width: usize,
+    depth: usize,
+    at: usize,
+) -> Walk
     requires { ⌜ (at ≤ length (now s)) × ((width ≤ 32) × ((depth ≤ 48) × ((length (now image) ≤ 16384) × ((Known signatureBytes (now image) (now sigs) × Known parametersBytes (now image) (now labels)))))) ⌝ }
     ensures within { λ r. ⌜ Within at (now (s .entry)) r ⌝ }
     ensures { λ r. ⌜ RegionIs (now (image .entry)) (now (sigs .entry)) (now (labels .entry)) (now (s .entry)) env width depth at r ⌝ }

@@ -11,7 +11,9 @@ pub(crate) struct Type {
 
 impl Type {
     pub(crate) const PRD: u8 = 0;
+
     pub(crate) const CNS: u8 = 1;
+
     pub(crate) const EXT: u8 = 2;
 
     // A producer of a signature.

@@ -2,9 +2,6 @@ use native.Mathlib.Omega.{arith}
 use Rattle.checker.proofs.FormLaws as law
 use Rattle.checker.proofs.forms.ends_with.Statement.{statement}
 use Rattle.checker.proofs.forms.ends_with.Tie as tie
-use Rattle.checker.proofs.forms.ends_with.Reads as reads
-use Rattle.checker.proofs.forms.ends_with.Lts as lts
-use Rattle.checker.proofs.entries.same_types.Reads as same-types-reads
 
 shared-slice-read-n : tie.Need-shared-slice-read-n
 shared-slice-read-n c = omega (arith, law.count-inside _ _ (c .before .before .pre .1))

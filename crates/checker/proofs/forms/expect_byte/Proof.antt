@@ -3,8 +3,6 @@ use Rattle.checker.proofs.FormLaws as law
 use borrow.Author.Needs.{needs}
 use Rattle.checker.proofs.forms.expect_byte.Statement.{statement}
 use Rattle.checker.proofs.forms.expect_byte.Tie as tie
-use Rattle.checker.proofs.forms.expect_byte.Reads as reads
-use Rattle.checker.proofs.forms.expect_byte.Lts as lts
 
 returns : tie.Need-returns
 returns c = (tt, law.expect-end _ _ _ (c .before .pre) (c .if1 .taken))

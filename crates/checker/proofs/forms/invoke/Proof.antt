@@ -1,17 +1,10 @@
 use native.Mathlib.Omega.{arith}
-use Prim.Native.Nat.{_+_}
 use lib.ListN.{getD}
 use Rattle.checker.proofs.FormLaws as law
 use Rattle.checker.proofs.ClauseHeads as heads
 use borrow.Author.Needs.{needs}
 use Rattle.checker.proofs.forms.invoke.Statement.{statement}
 use Rattle.checker.proofs.forms.invoke.Tie as tie
-use Rattle.checker.proofs.forms.invoke.Reads as reads
-use Rattle.checker.proofs.forms.invoke.Lts as lts
-use Rattle.checker.proofs.entries.symbol_at.Reads as symbol-at-reads
-use Rattle.checker.proofs.forms.equals.Reads as equals-reads
-use Rattle.checker.proofs.forms.name.Reads as name-reads
-use Rattle.checker.proofs.forms.wide.Reads as wide-reads
 
 returns : tie.Need-returns
 returns c = (tt, heads.invoke-none _ _ _ _ (omega arith) _ (c .before .before .before .before .pre .1 .0) _ (c .if1 .taken))

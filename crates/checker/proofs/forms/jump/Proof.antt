@@ -3,10 +3,6 @@ use Rattle.checker.proofs.FormLaws as law
 use borrow.Author.Needs.{needs}
 use Rattle.checker.proofs.forms.jump.Statement.{statement}
 use Rattle.checker.proofs.forms.jump.Tie as tie
-use Rattle.checker.proofs.forms.jump.Reads as reads
-use Rattle.checker.proofs.forms.jump.Lts as lts
-use Rattle.checker.proofs.forms.equals.Reads as equals-reads
-use Rattle.checker.proofs.forms.name.Reads as name-reads
 
 add-name : tie.Need-add-name
 add-name c = omega arith

@@ -3,8 +3,6 @@ use Rattle.checker.proofs.ClauseHeads as heads
 use borrow.Author.Needs.{needs}
 use Rattle.checker.proofs.forms.last_is.Statement.{statement}
 use Rattle.checker.proofs.forms.last_is.Tie as tie
-use Rattle.checker.proofs.forms.last_is.Reads as reads
-use Rattle.checker.proofs.forms.last_is.Lts as lts
 
 returns : tie.Need-returns
 returns c = heads.last-none _ (omega arith) _ (c .before .pre) _ _ (c .if1 .taken)

@@ -5,11 +5,6 @@ use Rattle.checker.proofs.FormLaws as law
 use borrow.Author.Needs.{needs}
 use Rattle.checker.proofs.forms.let_head.Statement.{statement}
 use Rattle.checker.proofs.forms.let_head.Tie as tie
-use Rattle.checker.proofs.forms.let_head.Reads as reads
-use Rattle.checker.proofs.forms.let_head.Lts as lts
-use Rattle.checker.proofs.entries.symbol_at.Reads as symbol-at-reads
-use Rattle.checker.proofs.forms.ends_with.Reads as ends-with-reads
-use Rattle.checker.proofs.forms.name.Reads as name-reads
 
 add-name : tie.Need-add-name
 add-name c = omega arith

@@ -4,8 +4,6 @@ use mathlib.Core.Path.{refl}
 use borrow.Author.Needs.{needs}
 use Rattle.checker.proofs.forms.name.Statement.{statement}
 use Rattle.checker.proofs.forms.name.Tie as tie
-use Rattle.checker.proofs.forms.name.Reads as reads
-use Rattle.checker.proofs.forms.name.Lts as lts
 
 returns : tie.Need-returns
 returns c = isEnded (c .if1 .taken)

@@ -6,10 +6,6 @@ use Rattle.checker.proofs.ClauseHeads as heads
 use borrow.Author.Needs.{needs}
 use Rattle.checker.proofs.forms.new_head.Statement.{statement}
 use Rattle.checker.proofs.forms.new_head.Tie as tie
-use Rattle.checker.proofs.forms.new_head.Reads as reads
-use Rattle.checker.proofs.forms.new_head.Lts as lts
-use Rattle.checker.proofs.forms.expect_byte.Reads as expect-byte-reads
-use Rattle.checker.proofs.forms.name.Reads as name-reads
 
 add-name : tie.Need-add-name
 add-name c = omega arith

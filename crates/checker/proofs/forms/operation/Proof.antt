@@ -5,8 +5,6 @@ use Rattle.checker.proofs.ClauseHeads as heads
 use borrow.Author.Needs.{needs}
 use Rattle.checker.proofs.forms.operation.Statement.{statement}
 use Rattle.checker.proofs.forms.operation.Tie as tie
-use Rattle.checker.proofs.forms.operation.Reads as reads
-use Rattle.checker.proofs.forms.operation.Lts as lts
 
 returns : tie.Need-returns
 returns c = heads.operation-end _ _ (c .before .pre) (c .if1 .taken)

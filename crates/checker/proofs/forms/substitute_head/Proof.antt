@@ -5,9 +5,6 @@ use Rattle.checker.proofs.ClauseHeads as heads
 use borrow.Author.Needs.{needs}
 use Rattle.checker.proofs.forms.substitute_head.Statement.{statement}
 use Rattle.checker.proofs.forms.substitute_head.Tie as tie
-use Rattle.checker.proofs.forms.substitute_head.Reads as reads
-use Rattle.checker.proofs.forms.substitute_head.Lts as lts
-use Rattle.checker.proofs.entries.positions.Reads as positions-reads
 
 add-place : tie.Need-add-place
 add-place c = search needs

@@ -1,17 +1,11 @@
 use native.Mathlib.Omega.{arith}
 use borrow.Author.Tests.{not-true, not-false}
-use Prim.Native.Nat.{_+_}
 use lib.ListN.{getD}
 use Rattle.checker.proofs.FormLaws as law
 use Rattle.checker.proofs.ClauseHeads as heads
 use borrow.Author.Needs.{needs}
 use Rattle.checker.proofs.forms.switch_head.Statement.{statement}
 use Rattle.checker.proofs.forms.switch_head.Tie as tie
-use Rattle.checker.proofs.forms.switch_head.Reads as reads
-use Rattle.checker.proofs.forms.switch_head.Lts as lts
-use Rattle.checker.proofs.forms.expect_byte.Reads as expect-byte-reads
-use Rattle.checker.proofs.forms.last_is.Reads as last-is-reads
-use Rattle.checker.proofs.forms.name.Reads as name-reads
 
 add-name : tie.Need-add-name
 add-name c = omega arith

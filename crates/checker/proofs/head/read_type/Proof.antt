@@ -4,8 +4,6 @@ use Rattle.checker.proofs.TypeLaws as law
 use borrow.Author.Needs.{needs}
 use Rattle.checker.proofs.head.read_type.Statement.{statement}
 use Rattle.checker.proofs.head.read_type.Tie as tie
-use Rattle.checker.proofs.head.read_type.Reads as reads
-use Rattle.checker.proofs.head.read_type.Lts as lts
 
 returns : tie.Need-returns
 returns c = search (needs, law.type-none)

@@ -1,16 +1,12 @@
 use native.Mathlib.Omega.{arith}
 use borrow.Author.Needs.{needs}
-use Prim.Native.Nat.{ℕ, _+_, _≤_}
+use Prim.Native.Nat.{_≤_}
 use lib.ListN.{length}
-use mathlib.Core.Path.{_≡_}
 use Rattle.definitions.specs.FirstFault.{type}
 use Rattle.checker.specs.declared.Walk.{Walk}
 use Rattle.checker.proofs.Loops as loops
 use Rattle.checker.proofs.head.read_types.Statement.{statement}
 use Rattle.checker.proofs.head.read_types.Tie as tie
-use Rattle.checker.proofs.head.read_types.Reads as reads
-use Rattle.checker.proofs.head.read_types.Lts as lts
-use Rattle.checker.proofs.head.read_type.Reads as read-type-reads
 
 abbrev Inv-loop : tie.InvT-loop
 Inv-loop s sigs at count p₀ left₀ p left = (at ≤ p) × ((p ≤ length s) × ((r : Walk) → loops.Times (type sigs) s left p r → loops.Times (type sigs) s count at r))

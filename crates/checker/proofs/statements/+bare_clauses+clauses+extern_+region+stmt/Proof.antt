@@ -2,9 +2,9 @@ use Prim.Native.Nat.{_+_, _-_, _*_, _≤_}
 use native.Mathlib.Omega.{arith}
 use borrow.Author.Needs.{needs}
 use mathlib.Core.Path.{_≡_}
-use lib.ListN.{length, getD}
+use lib.ListN.{length}
 use Rattle.checker.specs.declared.Walk.{Walk}
-use Rattle.checker.specs.Statements.{StatementIs, ClausesFrom, ClausesAre, BareAre}
+use Rattle.checker.specs.Statements.{StatementIs, ClausesFrom, BareAre}
 use Rattle.checker.proofs.Loops as loops
 use Rattle.checker.proofs.RegionLaws as regions
 use Rattle.checker.proofs.StatementLaws as statements

@@ -1,4 +1,3 @@
-use native.Mathlib.Omega.{arith}
 use Rattle.definitions.specs.Terms.{ext}
 use Rattle.checker.proofs.RegionLaws as regions
 use borrow.Author.Needs.{needs}
