@@ -4,4 +4,5 @@ pub mod Header
 pub mod Complete
 pub mod Sound
 pub mod Numbered
+pub mod Offsets
 pub mod Exact

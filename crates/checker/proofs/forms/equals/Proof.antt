@@ -10,7 +10,7 @@ cast-n : tie.Need-cast-n
 cast-n c = omega (arith, c .shared-slice-known2 .given (c .before .before .args .list))
 
 returns : tie.Need-returns
-returns c = law.equals-not _ _ (omega arith) _ (c .before .before .before .pre .0) _ (c .if1 .taken)
+returns c = law.equals-not _ _ (omega arith) _ (c .before .before .before .pre .0) _ (λ e. omega (arith, e, c .if1 .taken))
 
 add-same-types : tie.Need-add-same-types
 add-same-types c = omega (arith, law.count-inside _ _ (c .before .before .before .pre .1))

@@ -14,7 +14,7 @@ cast-if2 : tie.Need-cast-if2
 cast-if2 c = omega (arith, c .shared-slice-known .given (c .before .before .args .at))
 
 returns-2 : tie.Need-returns-2
-returns-2 c = (tt, law.expect-other _ _ _ (c .before .before .before .pre) (c .before .before .if1 .left) (c .if2 .taken))
+returns-2 c = (tt, law.expect-other _ _ _ (c .before .before .before .pre) (c .before .before .if1 .left) (λ e. omega (arith, e, c .if2 .taken, c .before .shared-slice-known .given (c .before .before .before .args .at))))
 
 add-t4 : tie.Need-add-t4
 add-t4 c = search needs
