@@ -4,16 +4,14 @@
 #[path = "../../second/tests/common/mod.rs"]
 mod common;
 
-use common::{image_of, nested};
+use common::{image_of, lets_in_a_row, nested, news_in_a_row, on_small_stack};
 use second::generate::{self, Profile};
 use second::terms::{Statement, Straight, Type};
 
 /// The proved check's verdict, given on a small stack.
 fn verdict_on_small_stack(image: &[u8]) -> (u8, u32) {
     let image = image.to_vec();
-    let thread = std::thread::Builder::new().stack_size(256 * 1024);
-    let thread = thread.spawn(move || axcut::check(&image)).expect("a thread");
-    let axcut::Verdict { number, offset } = thread.join().expect("no panic on a small stack");
+    let axcut::Verdict { number, offset } = on_small_stack(move || axcut::check(&image));
     (number, offset)
 }
 
@@ -40,23 +38,16 @@ fn of_8000_substitutes_in_a_row() {
     assert_number(&line(&[], vec![Straight::Substitute(vec![]); 8_000]), 0);
 }
 
-/// Signature 0 has m0(prd 0) and m1(): a producer around a producer.
 #[test]
 fn of_5000_lets_in_a_row() {
-    let mut straight = vec![Straight::Let { signature: 0, symbol: 1 }];
-    straight.extend(vec![Straight::Let { signature: 0, symbol: 0 }; 5_000]);
-    straight.push(Straight::Substitute(vec![]));
-    assert_number(&line(&[vec![vec![Type::Prd(0)], vec![]]], straight), 0);
+    let (signatures, straight) = lets_in_a_row(5_000);
+    assert_number(&line(&signatures, straight), 0);
 }
 
-/// Signature 0 has no symbol: a consumer around a consumer, without clauses.
 #[test]
 fn of_4000_news_in_a_row() {
-    let new = |captures| Straight::New { signature: 0, captures, clauses: vec![], offset: 0 };
-    let mut straight = vec![new(0)];
-    straight.extend(vec![new(1); 4_000]);
-    straight.push(Straight::Substitute(vec![]));
-    assert_number(&line(&[vec![]], straight), 0);
+    let (signatures, straight) = news_in_a_row(4_000);
+    assert_number(&line(&signatures, straight), 0);
 }
 
 #[test]

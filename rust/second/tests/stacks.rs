@@ -3,7 +3,10 @@
 
 mod common;
 
-use common::{accepted, answer, image_of, nested, pattern, verdict};
+use common::{
+    accepted, answer, image_of, lets_in_a_row, nested, news_in_a_row, on_small_stack, pattern,
+    verdict,
+};
 use second::assemble::assemble;
 use second::decode::decode;
 use second::generate::{self, Profile};
@@ -11,11 +14,6 @@ use second::random::Random;
 use second::terms::{Arithmetic, Statement, Straight, Type};
 use second::typing::is_image_of_well_typed;
 use second::{run, run_on_trees};
-
-fn on_small_stack(test: impl FnOnce() + Send + 'static) {
-    let thread = std::thread::Builder::new().stack_size(256 * 1024).spawn(test);
-    thread.expect("a thread").join().expect("no panic on a small stack");
-}
 
 /// The image is accepted by the check and by the typing of its terms.
 fn assert_accepted(image: &[u8]) {
@@ -38,27 +36,20 @@ fn check_of_8000_substitutes_in_a_row() {
     on_small_stack(move || assert_accepted(&image));
 }
 
-/// Signature 0 has m0(prd 0) and m1(): a producer around a producer.
 #[test]
 fn check_of_5000_lets_in_a_row() {
-    let mut straight = vec![Straight::Let { signature: 0, symbol: 1 }];
-    straight.extend(vec![Straight::Let { signature: 0, symbol: 0 }; 5_000]);
-    straight.push(Straight::Substitute(vec![]));
-    let image = line(&[vec![vec![Type::Prd(0)], vec![]]], straight);
+    let (signatures, straight) = lets_in_a_row(5_000);
+    let image = line(&signatures, straight);
     on_small_stack(move || {
         assert_accepted(&image);
         assert_eq!(run(&image, &[], u32::MAX, &mut pattern(8_000)), answer(42, 4_001, 8_000, 0));
     });
 }
 
-/// Signature 0 has no symbol: a consumer around a consumer, without clauses.
 #[test]
 fn check_of_4000_news_in_a_row() {
-    let new = |captures| Straight::New { signature: 0, captures, clauses: vec![], offset: 0 };
-    let mut straight = vec![new(0)];
-    straight.extend(vec![new(1); 4_000]);
-    straight.push(Straight::Substitute(vec![]));
-    let image = line(&[vec![]], straight);
+    let (signatures, straight) = news_in_a_row(4_000);
+    let image = line(&signatures, straight);
     on_small_stack(move || {
         assert_accepted(&image);
         assert_eq!(run(&image, &[], u32::MAX, &mut pattern(7_999)), answer(42, 4_000, 7_998, 0));

@@ -3,7 +3,7 @@
 #![allow(dead_code)] // each test file is a program of its own and uses only some of this
 
 use second::assemble::assemble;
-use second::terms::{Label, Program, Signature, Statement, Type};
+use second::terms::{Label, Program, Signature, Statement, Straight, Type};
 use second::{check, Answer, Verdict};
 
 /// Image A of document 01.
@@ -85,4 +85,29 @@ pub fn nested(times: usize, inside: Statement) -> Statement {
 /// A table of this many words, no two alike and none of them likely in a run.
 pub fn pattern(words: usize) -> Vec<u64> {
     (0..words as u64).map(|word| 0xA5A5_5A5A_0000_0000 | word).collect()
+}
+
+/// What the task gives on a thread of 256 KiB.
+pub fn on_small_stack<T: Send + 'static>(task: impl FnOnce() -> T + Send + 'static) -> T {
+    let thread = std::thread::Builder::new().stack_size(256 * 1024).spawn(task);
+    thread.expect("a thread").join().expect("no panic on a small stack")
+}
+
+/// Signatures, and statements: a producer around a producer, so many times, then nothing kept.
+/// Signature 0 has m0(prd 0) and m1().
+pub fn lets_in_a_row(times: usize) -> (Vec<Vec<Vec<Type>>>, Vec<Straight>) {
+    let mut straight = vec![Straight::Let { signature: 0, symbol: 1 }];
+    straight.extend(vec![Straight::Let { signature: 0, symbol: 0 }; times]);
+    straight.push(Straight::Substitute(vec![]));
+    (vec![vec![vec![Type::Prd(0)], vec![]]], straight)
+}
+
+/// Signatures, and statements: a consumer around a consumer, so many times, then nothing kept.
+/// Signature 0 has no symbol, so that they have no clauses.
+pub fn news_in_a_row(times: usize) -> (Vec<Vec<Vec<Type>>>, Vec<Straight>) {
+    let new = |captures| Straight::New { signature: 0, captures, clauses: vec![], offset: 0 };
+    let mut straight = vec![new(0)];
+    straight.extend(vec![new(1); times]);
+    straight.push(Straight::Substitute(vec![]));
+    (vec![vec![]], straight)
 }
