@@ -1,5 +1,5 @@
-//! Links the static library of the proved check. Builds it first, by the repository's `./build-lib`,
-//! where it is missing or older than what it is built from.
+//! Links the static library of the proved check and run. Builds it first, by the repository's
+//! `./build-lib`, where it is missing or older than what it is built from.
 
 use std::fs;
 use std::path::{Path, PathBuf};
@@ -7,8 +7,15 @@ use std::process::Command;
 use std::time::SystemTime;
 
 /// What the library is built from, in the repository.
-const SOURCES: [&str; 5] =
-    ["crates.txt", "crates/definitions", "crates/exactness", "crates/checker", "crates/boundary"];
+const SOURCES: [&str; 7] = [
+    "crates.txt",
+    "crates/definitions",
+    "crates/exactness",
+    "crates/lockstep",
+    "crates/checker",
+    "crates/runner",
+    "crates/boundary",
+];
 /// Where `./build-lib` puts the library.
 const FOLDER: &str = "target/staticlib";
 
@@ -38,7 +45,7 @@ fn repository() -> PathBuf {
 /// The library holds code for one processor, and elsewhere the linker's words would not say so.
 fn refuse_other_processors() {
     let processor = std::env::var("CARGO_CFG_TARGET_ARCH").unwrap_or_default();
-    assert_eq!(processor, "x86_64", "the library of the proved check is for x86-64 alone");
+    assert_eq!(processor, "x86_64", "the proved library is for x86-64 alone");
 }
 
 /// Whether the library is there and newer than all that it is built from.
@@ -65,6 +72,6 @@ fn build(repository: &Path) {
     if !output.status.success() {
         let said = [output.stdout, output.stderr].concat();
         let said = String::from_utf8_lossy(&said);
-        panic!("the library of the proved check was not built; run ./build-lib\n{said}");
+        panic!("the proved library was not built; run ./build-lib\n{said}");
     }
 }

@@ -2,6 +2,7 @@
 ghost use mathlib.Core.Path.{_≡_};
 ghost use Rattle.definitions.specs.Reader.{fault};
 ghost use Rattle.definitions.specs.FirstFault.{firstFault};
+ghost use Rattle.definitions.specs.Answer.{answer};
 
 // The number and offset of the first fault, laid out as C lays out a struct.
 #[repr(C)]
@@ -19,5 +20,28 @@ pub extern "C" fn axcut_check(image: &[u8]) -> Answer
     Answer {
         number: verdict.number,
         offset: verdict.offset as u64,
+    }
+}
+
+// How a run ended, or why it was refused; after how many steps, with how many words stored, and the exit value.
+#[repr(C)]
+pub struct Ran {
+    pub number: u8,
+    pub steps: u32,
+    pub words: u32,
+    pub value: u64,
+}
+
+// The run of an image with arguments, fuel and a lent table: its answer, and the whole table after it.
+#[no_mangle]
+pub extern "C" fn axcut_run(image: &[u8], args: &[u64], fuel: u32, table: &mut [u64]) -> Ran
+    ensures { λ r. ⌜ answer (now (image .entry)) (now (args .entry)) fuel (now (table .entry)) ≡ record { number = r .number; steps = r .steps; words = r .words; value = r .value; table = now (table .exit) } ⌝ }
+{
+    let ran = runner::run(image, args, fuel, table);
+    Ran {
+        number: ran.number,
+        steps: ran.steps,
+        words: ran.words,
+        value: ran.value,
     }
 }

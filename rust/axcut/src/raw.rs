@@ -1,4 +1,4 @@
-//! The static library's function, as it is declared in `crates/boundary/src/lib.rt`. All unsafe
+//! The static library's functions, as they are declared in `crates/boundary/src/lib.rt`. All unsafe
 //! code is here.
 
 /// The library's struct of the same name, field by field.
@@ -8,9 +8,28 @@ pub(crate) struct Answer {
     pub(crate) offset: u64,
 }
 
+/// The library's struct of the same name, field by field.
+#[repr(C)]
+pub(crate) struct Ran {
+    pub(crate) number: u8,
+    pub(crate) steps: u32,
+    pub(crate) words: u32,
+    pub(crate) value: u64,
+}
+
+// A slice is handed over as its first element's address and its length, counted in elements.
 extern "C" {
-    /// A slice is handed over as its first byte's address and its length.
     fn axcut_check(image: *const u8, length: usize) -> Answer;
+
+    fn axcut_run(
+        image: *const u8,
+        image_length: usize,
+        args: *const u64,
+        args_length: usize,
+        fuel: u32,
+        table: *mut u64,
+        table_length: usize,
+    ) -> Ran;
 }
 
 /// The library's answer for `image`.
@@ -19,4 +38,24 @@ pub(crate) fn check(image: &[u8]) -> Answer {
     // empty slice the address is not null and is never read. The library is proved to read inside
     // the slice only, to write nothing of the caller's, and to end; it keeps no address.
     unsafe { axcut_check(image.as_ptr(), image.len()) }
+}
+
+/// The library's answer for a run, which writes to `table`.
+pub(crate) fn run(image: &[u8], args: &[u64], fuel: u32, table: &mut [u64]) -> Ran {
+    // SAFETY: addresses and lengths are three live slices'; `table` is borrowed alone, so nobody
+    // else reads or writes it during the call and it overlaps neither `image` nor `args`, which
+    // nobody writes. Of an empty slice the address is aligned, not null, and never read or written.
+    // The library is proved to read inside the slices only, to write inside `table` only, and to
+    // end; it keeps no address.
+    unsafe {
+        axcut_run(
+            image.as_ptr(),
+            image.len(),
+            args.as_ptr(),
+            args.len(),
+            fuel,
+            table.as_mut_ptr(),
+            table.len(),
+        )
+    }
 }

@@ -3,7 +3,7 @@
 #![allow(dead_code)] // each test file is a program of its own and uses only some of this
 
 use second::assemble::assemble;
-use second::terms::{Label, Program, Signature, Statement, Straight, Type};
+use second::terms::{Arithmetic, Label, Program, Signature, Statement, Straight, Type};
 use second::{check, Answer, Verdict};
 
 /// Image A of document 01.
@@ -80,6 +80,17 @@ pub fn image_of(signatures: &[Vec<Vec<Type>>], labels: &[(Vec<Type>, Statement)]
 /// `extern ifz 0` around a statement, so many times.
 pub fn nested(times: usize, inside: Statement) -> Statement {
     (0..times).fold(inside, |inside, _| Statement::ifz(0, Statement::exit(0), inside))
+}
+
+/// An image that counts its first argument down to 0, adds every count to its second, and exits
+/// with the sum. A count of n takes 6 n + 2 steps and no room.
+pub fn countdown() -> Vec<u8> {
+    // count, sum, new sum, one, count less one
+    let again = Statement::substitute(&[4, 2], Statement::jump(0));
+    let again = Statement::lit(1, Statement::compute(Arithmetic::Sub, 0, 3, again));
+    let again = Statement::compute(Arithmetic::Add, 1, 0, again);
+    let body = Statement::ifz(0, Statement::exit(1), again);
+    image_of(&[], &[(vec![Type::Ext, Type::Ext], body)])
 }
 
 /// A table of this many words, no two alike and none of them likely in a run.

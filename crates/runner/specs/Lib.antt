@@ -1,0 +1,5 @@
+pub mod Given
+pub mod Head
+pub mod Running
+pub mod Extern
+pub mod Shown
