@@ -19,7 +19,7 @@ length-bigEndian zero n = refl
 length-bigEndian (suc zero) n = refl
 length-bigEndian (suc (suc k)) n = rw (length-append (bigEndian (suc k) (n / 256)) (n % 256 ∷ []), length-bigEndian (suc k) (n / 256)) (omega arith)
 
-spelt-append : (n : ℕ) (xs : List ℕ) (b : ℕ) → spelt n (xs ++ (b ∷ [])) ≡ spelt n xs * 256 + b
+pub spelt-append : (n : ℕ) (xs : List ℕ) (b : ℕ) → spelt n (xs ++ (b ∷ [])) ≡ spelt n xs * 256 + b
 spelt-append n [] b = refl
 spelt-append n (x ∷ xs) b = spelt-append (n * 256 + x) xs b
 

@@ -1,11 +1,11 @@
 pub mod Filling
 pub mod Named
 pub mod Arithmetic
+pub mod Inverse
 pub mod ClauseLaws
 pub mod Heads
 pub mod Starts
 pub mod Kept
-pub mod Inverse
 pub mod Ready
 pub mod ArgumentLaws
 pub mod ExternLaws

@@ -21,6 +21,7 @@ use Rattle.exactness.proofs.Offsets as Offsets
 use Rattle.lockstep.proofs.Together.{Together}
 use Rattle.lockstep.proofs.Whole as Whole
 use Rattle.lockstep.proofs.Answers as Answers
+use Rattle.lockstep.proofs.Answers.{AnswerNumber}
 
 -- Document 01, "Marked P: proved from the definitions, as a single table under one claim."
 rows : map Table.computed Table.rows ≡ Table.rows
@@ -56,6 +57,10 @@ Fitting a args = length args ≡ length (getD (a .program .labels) 0 [])
 -- Demand 1: then 20, and the table is not touched.
 demand-1-arguments : {image : List ℕ} (a : Accepted image) (args : List ℕ) (fuel : ℕ) (table : List ℕ) → (Fitting a args → ⊥) → answer image args fuel table ≡ refusal 20 table
 demand-1-arguments a args fuel table l = Answers.arguments-refused a args fuel table (Whole.not-fitting a args l)
+
+-- Demand 3: so an answer's number is a refusal's, 40, 41 or 42, whatever the input.
+demand-3-number : (image args : List ℕ) (fuel : ℕ) (table : List ℕ) → Bytes image → AnswerNumber (answer image args fuel table .number)
+demand-3-number = Answers.answer-number
 
 -- how many words a configuration has stored
 abbrev words : Configuration → ℕ
