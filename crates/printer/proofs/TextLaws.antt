@@ -116,17 +116,20 @@ module _ {n k : ℕ} (fewest : Io.Fewest 10 1 n k) (fits : n < 2 ^ 64) where
       let z : k ≡ suc (k - 1) = omega (arith, fewest .0) in
       e ∙ ap (λ j. Io.digits 10 j n) z ∙ decimal (k - 1) n (suc n) (omega arith) (rw z at (fewest .1)) (λ l. fewest .2 (omega arith))
 
--- one figure more
-pub copied : (t : Text) (figures : List ℕ) {xs bytes : List ℕ} {i k : ℕ} → Holds t xs → length xs + 21 ≤ 128 → k ≤ 20 → k ≤ length figures → i < k → bytes ≡ paste (t .bytes) (t .length) figures i
-    → set bytes (t .length + i) (getD figures i 0) ≡ paste (t .bytes) (t .length) figures (i + 1)
-copied t figures {xs} {bytes} {i} {k} h f s c l e =
-    rw (e, add-one i) (paste-suc (t .bytes) (t .length) figures i 0 (omega (arith, all-bytes h, h .length-is)) (omega arith))
+-- a text without room is not one that is asked about
+pub no-room : {t : Text} {G : Type 0} (xs : List ℕ) → 107 < t .length → Holds t xs → length xs + 21 ≤ 128 → G
+no-room xs l h f = absurd (omega (arith, h .length-is))
 
-pub numbered : (t : Text) (figures : List ℕ) (b : ℕ) {bytes : List ℕ} {n k i : ℕ} (xs : List ℕ) → Holds t xs → length xs + 21 ≤ 128 → Io.Fewest 10 1 n k → n < 2 ^ 64 → k ≤ length figures → take k figures ≡ Io.digits 10 k n → i ≤ k → k ≤ i → bytes ≡ paste (t .bytes) (t .length) figures i
+-- one figure more
+pub copied : (start figures : List ℕ) (at : ℕ) {bytes : List ℕ} {i k : ℕ} → at ≤ 107 → k ≤ 20 → k ≤ length figures → i < k → (length start ≡ 128 → bytes ≡ paste start at figures i)
+    → length start ≡ 128 → set bytes (at + i) (getD figures i 0) ≡ paste start at figures (i + 1)
+copied start figures at {bytes} {i} {k} h s c l e full = rw (e full, add-one i) (paste-suc start at figures i 0 (omega arith) (omega arith))
+
+pub numbered : (t : Text) (figures : List ℕ) (b : ℕ) {bytes : List ℕ} {n k i : ℕ} (xs : List ℕ) → Holds t xs → length xs + 21 ≤ 128 → Io.Fewest 10 1 n k → n < 2 ^ 64 → k ≤ length figures → take k figures ≡ Io.digits 10 k n → i ≤ k → k ≤ i → (length (t .bytes) ≡ 128 → bytes ≡ paste (t .bytes) (t .length) figures i)
     → Holds (record { bytes = set bytes (t .length + k) b; length = t .length + k + 1 }) (xs ++ (digits (suc n) n ++ (b ∷ [])))
 numbered t figures b {bytes} {n} {k} {i} xs h f fewest fits c e low high w =
     let z : i ≡ k = omega arith in
-    rw (w, z) (with-number t xs h f n b k figures c (few fewest fits) (figures-are fewest fits figures e))
+    rw (w (all-bytes h), z) (with-number t xs h f n b k figures c (few fewest fits) (figures-are fewest fits figures e))
 
 -- ---- the two lines
 
@@ -138,7 +141,7 @@ pub record Grown (t : Text) (most : ℕ) (xs : List ℕ) : Type 0 where
 pub begun : {t : Text} → Holds t [] → Grown t 0 []
 begun h = record { holds = h; few = omega (arith, h .length-is) }
 
-pub room : {t : Text} {m : ℕ} {xs : List ℕ} → Grown t m xs → m + 21 ≤ 128 → length xs + 21 ≤ 128
+room : {t : Text} {m : ℕ} {xs : List ℕ} → Grown t m xs → m + 21 ≤ 128 → length xs + 21 ≤ 128
 room g l = omega (arith, g .few, g .holds .length-is)
 
 pub next : {t r : Text} {m : ℕ} {xs : List ℕ} (n b : ℕ) → Grown t m xs → m + 21 ≤ 128 → (r .length ≤ t .length + 21) × ((ys : List ℕ) → Holds t ys → length ys + 21 ≤ 128 → Holds r (ys ++ (digits (suc n) n ++ (b ∷ [])))) → Grown r (m + 21) (xs ++ (digits (suc n) n ++ (b ∷ [])))

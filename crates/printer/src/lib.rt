@@ -22,15 +22,17 @@ fn empty() -> Text
     }
 }
 
-// A text, a number in decimal, and the byte behind it.
+// A text, a number in decimal, and the byte behind it; the text alone where there is no room for both.
 fn with_number(text: Text, n: u64, behind: u8) -> Text
-    requires { ⌜ ((xs : List ℕ) × (Holds text xs × (length xs + 21 ≤ 128))) ⌝ }
     ensures grown { λ r. ⌜ r .length ≤ text .length + 21 ⌝ }
     ensures { λ r. ⌜ ((xs : List ℕ) → Holds text xs → length xs + 21 ≤ 128 → Holds r (xs ++ (digits (suc n) n ++ (behind ∷ [])))) ⌝ }
 {
+    let at = text.length;
+    if 107 < at {
+        return text;
+    }
     let mut figures = [0u8; 20];
     let count = io::decimal(n, &mut figures);
-    let at = text.length;
     let mut bytes = text.bytes;
     let mut i: usize = 0;
     while i < count {

@@ -1,6 +1,5 @@
 use Rattle.printer.specs.Texts.{Holds}
 use mathlib.Core.Path.{sym, subst}
-use mathlib.Core.List.{[]}
 use native.Mathlib.Omega.{arith}
 use lib.ListN.{take}
 use lib.Seq.{length-take-le}
@@ -37,36 +36,31 @@ cast-with-number : tie.Need-cast-with-number
 cast-with-number c = search needs
 
 with-number-requires : tie.Need-with-number-requires
-with-number-requires c κs = ([], (c .before .empty .ensures, omega arith))
+with-number-requires c κs = search needs
 
 with-number-requires-2 : tie.Need-with-number-requires-2
-with-number-requires-2 c κs = let g = law.next (c .before .before .before .before .before .before .before .check .result .number) 32 (law.begun (c .before .before .empty .ensures)) (omega arith) (c .with-number .ensures) in
-    (_, (g .holds, law.room g (omega arith)))
+with-number-requires-2 c κs = search needs
 
 cast-with-number-2 : tie.Need-cast-with-number-2
 cast-with-number-2 c = search needs
 
 with-number-requires-3 : tie.Need-with-number-requires-3
-with-number-requires-3 c κs = let g = law.next (c .before .before .before .before .before .before .before .before .before .check .result .offset) 10 (law.next (c .before .before .before .before .before .before .before .before .before .check .result .number) 32 (law.begun (c .before .before .before .before .empty .ensures)) (omega arith) (c .before .before .with-number .ensures)) (omega arith) (c .before .with-number2 .ensures) in
-    (_, (g .holds, law.room g (omega arith)))
+with-number-requires-3 c κs = search needs
 
 cast-with-number-3 : tie.Need-cast-with-number-3
 cast-with-number-3 c = search needs
 
 with-number-requires-4 : tie.Need-with-number-requires-4
-with-number-requires-4 c κs = let g = law.next (c .before .before .before .before .before .before .before .before .run .result .number) 32 (law.next (c .before .before .before .before .before .before .before .before .before .before .before .check .result .offset) 10 (law.next (c .before .before .before .before .before .before .before .before .before .before .before .check .result .number) 32 (law.begun (c .before .before .before .before .before .before .empty .ensures)) (omega arith) (c .before .before .before .before .with-number .ensures)) (omega arith) (c .before .before .before .with-number2 .ensures)) (omega arith) (c .before .with-number3 .ensures) in
-    (_, (g .holds, law.room g (omega arith)))
+with-number-requires-4 c κs = search needs
 
 cast-with-number-4 : tie.Need-cast-with-number-4
 cast-with-number-4 c = search needs
 
 with-number-requires-5 : tie.Need-with-number-requires-5
-with-number-requires-5 c κs = let g = law.next (c .before .before .before .before .before .before .before .before .before .before .run .result .steps) 32 (law.next (c .before .before .before .before .before .before .before .before .before .before .run .result .number) 32 (law.next (c .before .before .before .before .before .before .before .before .before .before .before .before .before .check .result .offset) 10 (law.next (c .before .before .before .before .before .before .before .before .before .before .before .before .before .check .result .number) 32 (law.begun (c .before .before .before .before .before .before .before .before .empty .ensures)) (omega arith) (c .before .before .before .before .before .before .with-number .ensures)) (omega arith) (c .before .before .before .before .before .with-number2 .ensures)) (omega arith) (c .before .before .before .with-number3 .ensures)) (omega arith) (c .before .with-number4 .ensures) in
-    (_, (g .holds, law.room g (omega arith)))
+with-number-requires-5 c κs = search needs
 
 with-number-requires-6 : tie.Need-with-number-requires-6
-with-number-requires-6 c κs = let g = law.next (c .before .before .before .before .before .before .before .before .before .before .before .run .result .words) 32 (law.next (c .before .before .before .before .before .before .before .before .before .before .before .run .result .steps) 32 (law.next (c .before .before .before .before .before .before .before .before .before .before .before .run .result .number) 32 (law.next (c .before .before .before .before .before .before .before .before .before .before .before .before .before .before .check .result .offset) 10 (law.next (c .before .before .before .before .before .before .before .before .before .before .before .before .before .before .check .result .number) 32 (law.begun (c .before .before .before .before .before .before .before .before .before .empty .ensures)) (omega arith) (c .before .before .before .before .before .before .before .with-number .ensures)) (omega arith) (c .before .before .before .before .before .before .with-number2 .ensures)) (omega arith) (c .before .before .before .before .with-number3 .ensures)) (omega arith) (c .before .before .with-number4 .ensures)) (omega arith) (c .with-number5 .ensures) in
-    (_, (g .holds, law.room g (omega arith)))
+with-number-requires-6 c κs = search needs
 
 returns : tie.Need-returns
 returns c = let g = law.next (c .before .before .before .before .before .before .before .before .before .before .before .before .run .result .value) 10 (law.next (c .before .before .before .before .before .before .before .before .before .before .before .before .run .result .words) 32 (law.next (c .before .before .before .before .before .before .before .before .before .before .before .before .run .result .steps) 32 (law.next (c .before .before .before .before .before .before .before .before .before .before .before .before .run .result .number) 32 (law.next (c .before .before .before .before .before .before .before .before .before .before .before .before .before .before .before .check .result .offset) 10 (law.next (c .before .before .before .before .before .before .before .before .before .before .before .before .before .before .before .check .result .number) 32 (law.begun (c .before .before .before .before .before .before .before .before .before .before .empty .ensures)) (omega arith) (c .before .before .before .before .before .before .before .before .with-number .ensures)) (omega arith) (c .before .before .before .before .before .before .before .with-number2 .ensures)) (omega arith) (c .before .before .before .before .before .with-number3 .ensures)) (omega arith) (c .before .before .before .with-number4 .ensures)) (omega arith) (c .before .with-number5 .ensures)) (omega arith) (c .with-number6 .ensures) in
