@@ -315,6 +315,8 @@ impl Book {
         self.body("less at 48", ONE, &nested(48, &less), 10, deepest + 4);
         let lit = join(&[LIT, &region(EXIT)]);
         self.body("lit at 48", ONE, &nested(48, &lit), 10, deepest + 10);
+        // 5 comes first.
+        self.body("lit at 48, width 32", &wide(32), &nested(48, &lit), 5, deepest + 10);
         for operation in 1..=3 {
             let compute = join(&[&[2, operation, 0, 0], &region(EXIT)]);
             self.body("add, sub, mul at 48", ONE, &nested(48, &compute), 10, deepest + 4);
@@ -323,6 +325,13 @@ impl Book {
         self.body("switch at 48", PAIR, &nested(48, &switch), 10, deepest + 6);
         let new = join(&[NEW, EXIT]);
         self.body("new at 48", PAIR, &nested(48, &new), 10, deepest + 4);
+        // 3 and 9 of the symbol byte come first.
+        self.body("switch at 48 without a symbol", PAIR, &nested(48, &switch[..6]), 3, deepest + 6);
+        let switch = join(&[&switch[..6], &clause(1, EXIT)]);
+        self.body("switch at 48, wrong symbol", PAIR, &nested(48, &switch), 9, deepest + 6);
+        self.body("new at 48 without a symbol", PAIR, &nested(48, &NEW[..4]), 3, deepest + 4);
+        let new = join(&[&NEW[..4], &clause(1, EXIT)]);
+        self.body("new at 48, wrong symbol", PAIR, &nested(48, &new), 9, deepest + 4);
         let after = join(&[&[1, 1, 0], &ifz]);
         self.body("ifz after substitute at 48", ONE, &nested(48, &after), 10, deepest + 6);
         self.body("many more than 48", ONE, &nested(200, EXIT), 10, deepest + 3);
