@@ -1,5 +1,5 @@
 -- The image from end to end: the tests before its content, the tables of its head, what follows its bodies. Assumes nothing.
-use Prim.Native.Nat.{ℕ, zero, suc, _+_, _*_, _≤_, _<_}
+use Prim.Native.Nat.{ℕ, suc, _+_, _*_, _≤_, _<_}
 use mathlib.Core.Path.{_≡_, refl, subst, sym, _∙_}
 use mathlib.Core.List.{List, [], _∷_, flatMap}
 use native.Mathlib.Omega.{arith}
@@ -11,13 +11,13 @@ use mir.Val.{Fits}
 use borrow.Author.Tests.{le-leb, lt-leb, eq-eqb, ne-eqb, leb-true}
 use Rattle.definitions.specs.Limits.{version, largestImage, widest}
 use Rattle.definitions.specs.Terms.{Environment, Signature}
-use Rattle.definitions.specs.Typing.{At, All, Parameters}
+use Rattle.definitions.specs.Typing.{All, Parameters}
 use Rattle.definitions.specs.Layout.{Bytes, counted}
 use Rattle.definitions.specs.Reader.{fault, Read, got, refused, Reader, after, need, byte, end}
 use Rattle.definitions.specs.FirstFault.{signatures, labels, bodies, program, readImage, firstFault}
 use Rattle.exactness.proofs.Readers.{with′, need-then, and-true, bytes-drop}
 use Rattle.exactness.proofs.Numbers.{item-enough}
-use Rattle.exactness.proofs.Header.{signatures-sound, labels-sound}
+use Rattle.exactness.proofs.Header.{all-at, signatures-sound, labels-sound}
 use Rattle.checker.specs.declared.Walk.{Walk}
 use Rattle.checker.specs.declared.Walk.the-variants.{On, Bad}
 use Rattle.checker.specs.Shown.{forget, shown}
@@ -134,16 +134,11 @@ module _ {A : Type 0} (f : A → List ℕ) (s : List ℕ) (at : ℕ) (l : List A
         laid = λ k a e. rw (getD-take (getD s at 0) table k 0 (omega (arith, at-below l k a e))) (p .placed l (sym (i .count)) (i .laid) k a e);
       }
 
-all-at : {A : Type 0} (P : A → Type 0) (l : List A) → All P l → (i : ℕ) (a : A) → At l i a → P a
-all-at P [] p i a e = let z : _≡_ {A = ℕ} 0 1 = cc in absurd (omega arith)
-all-at P (x ∷ l) p zero a e = let z : x ≡ a = cc in rw z at (p .0)
-all-at P (x ∷ l) p (suc i) a e = all-at P l (p .1) i a e
-
 labels-fit : (s offsets : List ℕ) (Θ : List Environment) → All (λ Γ. length Γ ≤ widest) Θ → Placed parametersBytes s offsets Θ → LabelsFit s offsets
 labels-fit s offsets Θ p w = record {
   fit = λ l h.
       with′ (at-some Θ l (omega (arith, w .many))) λ a.
-      rw (parameters-at s (getD offsets l 0) (a .0) (w .laid l (a .0) (a .1)) .count) (all-at _ Θ p l (a .0) (a .1));
+      rw (parameters-at s (getD offsets l 0) (a .0) (w .laid l (a .0) (a .1)) .count) (all-at _ Θ l p (a .1));
 }
 
 -- every element of a slice of bytes is a byte

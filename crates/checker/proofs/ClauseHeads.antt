@@ -1,5 +1,5 @@
 -- The tests of new, switch, substitute and extern before their clauses or remainder, in each case. Assumes nothing.
-use Prim.Native.Nat.{ℕ, zero, suc, _+_, _-_, _≤_, _<_}
+use Prim.Native.Nat.{ℕ, _+_, _-_, _≤_, _<_}
 use mathlib.Core.Path.{_≡_, refl, ap, sym, _∙_}
 use mathlib.Core.List.{List, [], _∷_, map}
 use mathlib.Core.Bool.{Bool, true, false, _&&_}
@@ -15,9 +15,10 @@ use Rattle.definitions.specs.Typing.{At, arguments, gains}
 use Rattle.definitions.specs.Layout.{kindByte, numberByte, typeBytes, named}
 use Rattle.definitions.specs.Ends.{front, back, last}
 use Rattle.definitions.specs.Reader.{fault, got, refused, after, give, need, the, byte, item, spelt, times, count, known, expected}
-use Rattle.definitions.specs.FirstFault.{consumes, anInvoke, sameTypes, operations, operation, clauses}
+use Rattle.definitions.specs.FirstFault.{consumes, anInvoke, sameTypes, operations, clauses}
 use Rattle.exactness.proofs.Readers.{with′}
 use Rattle.exactness.proofs.Numbers.{item-enough}
+use Rattle.exactness.proofs.Sound.{drop-at}
 use Rattle.checker.specs.declared.Walk.{Walk}
 use Rattle.checker.specs.declared.Walk.the-variants.{On, Bad}
 use Rattle.checker.specs.declared.Name.{Name}
@@ -30,9 +31,8 @@ use Rattle.checker.specs.Entries.{Positions}
 use Rattle.checker.specs.Forms.{NameIs, NewIs, newGoes, newFails, Inner, InvokeIs, SwitchIs, switchGoes, switchFails, SubstituteIs, substituteGoes, substituteFails, OperationIs, operationIs, operationNot, LastIs}
 use Rattle.checker.proofs.Bytes.{byte-end, byte-at}
 use Rattle.checker.proofs.Loops.{shown-bad, shown-on, forget-after}
-use Rattle.checker.proofs.Held.{held-entry}
-use Rattle.checker.proofs.Lists.{holds-length, holds-front, at-some, at-none}
-use Rattle.checker.proofs.FormLaws.{name-is, known-is, known-not, signature-count, false-true, Symbol, Equals}
+use Rattle.checker.proofs.Lists.{held-entry, holds-length, holds-front, at-some, at-none, beyond-six}
+use Rattle.checker.proofs.FormLaws.{name-is, known-is, known-not, signature-count, at-signature, false-true, Symbol, Equals}
 
 -- a byte that was as it must be
 pub expected-on : (s : List ℕ) (wanted at : ℕ) (q : Walk) → forget (expected wanted at (drop at s)) ≡ shown s q → Next at s q → (e : ℕ) → q ≡ On e → (expected wanted at (drop at s) ≡ got tt (at + 1) (drop (at + 1) s)) × (at + 1 ≤ length s)
@@ -49,31 +49,24 @@ module _ (image sigs s : List ℕ) (width at : ℕ) (q : Name) (h : NameIs s (le
   new-signature n o e = newFails {n = n} {o = o} (λ Σ Θ inner d Δ p k. rw (known-not s (length sigs) (at + 1) q h Σ (p .many) n o e))
 
   module _ (t : ℕ) (e : q ≡ Is t) where
-    at-signature : (Σ : List Signature) → Placed signatureBytes image sigs Σ
-        → (S : Signature) × Laid image (getD sigs t 0) (signatureBytes S) × (getD image (getD sigs t 0) 0 ≡ length S) × (known Σ (at + 1) (drop (at + 1) s) ≡ got (t, S) (at + 1 + 1) (drop (at + 1 + 1) s))
-    at-signature Σ p =
-        with′ (known-is s (length sigs) (at + 1) q h Σ (p .many) t e) λ w.
-        let l : Laid image (getD sigs t 0) (signatureBytes (w .0)) = p .laid t (w .0) (w .1) in
-        (w .0, l, signature-count image (getD sigs t 0) (w .0) l, w .2)
-
     pub new-end : at + 1 + 1 ≡ length s → NewIs image sigs s width at (Fails 3 (at + 1 + 1))
     unfolding after
     new-end y = newFails {n = 3} {o = at + 1 + 1} (λ Σ Θ inner d Δ p k.
-        with′ (at-signature Σ p) λ w.
+        with′ (at-signature image sigs s at q h t e Σ p) λ w.
         rw (w .3, byte-end s (at + 1 + 1) y))
 
     module _ (more : at + 1 + 1 < length s) where
       pub new-many : width < getD s (at + 1 + 1) 0 → NewIs image sigs s width at (Fails 8 (at + 1 + 1))
       unfolding after need
       new-many y = newFails {n = 8} {o = at + 1 + 1} (λ Σ Θ inner d Δ p k.
-          with′ (at-signature Σ p) λ w.
+          with′ (at-signature image sigs s at q h t e Σ p) λ w.
           rw (w .3, byte-at s (at + 1 + 1) more, lt-leb (getD s (at + 1 + 1) 0) (length Δ) (rw k y)))
 
       module _ (few : getD s (at + 1 + 1) 0 ≤ width) (x : Walk) (g : forget (expected (getD image (getD sigs t 0) 0) (at + 1 + 1 + 1) (drop (at + 1 + 1 + 1) s)) ≡ shown s x) (n : Next (at + 1 + 1 + 1) s x) where
         pub new-count : (k o : ℕ) → x ≡ Bad k o → NewIs image sigs s width at (Fails k o)
         unfolding after need
         new-count k o z = newFails {n = k} {o = o} (λ Σ Θ inner d Δ p y.
-            with′ (at-signature Σ p) λ w.
+            with′ (at-signature image sigs s at q h t e Σ p) λ w.
             let b : expected (length (w .0)) (at + 1 + 1 + 1) (drop (at + 1 + 1 + 1) s) ≡ refused (fault k o) = rw (w .2) at (shown-bad s (expected (getD image (getD sigs t 0) 0) (at + 1 + 1 + 1) (drop (at + 1 + 1 + 1) s)) x k o g z) in
             rw (w .3, byte-at s (at + 1 + 1) more, le-leb (getD s (at + 1 + 1) 0) (length Δ) (rw y few), b))
 
@@ -83,7 +76,7 @@ module _ (image sigs s : List ℕ) (width at : ℕ) (q : Name) (h : NameIs s (le
             let i : (at + 1 < length s) × (t ≡ getD s (at + 1) 0) × (t < length sigs) = name-is s (length sigs) (at + 1) q h t e in
             let m : at + 1 + 1 + 1 + 1 ≤ length s = expected-on s (getD image (getD sigs t 0) 0) (at + 1 + 1 + 1) x g n e′ z .1 in
             newGoes {sig = getD sigs t 0} {captures = getD s (at + 1 + 1) 0} m few (ap (λ k. getD sigs k 0) (i .1)) (omega arith) (λ Σ Θ inner d Δ p y.
-            with′ (at-signature Σ p) λ w.
+            with′ (at-signature image sigs s at q h t e Σ p) λ w.
             let b : expected (length (w .0)) (at + 1 + 1 + 1) (drop (at + 1 + 1 + 1) s) ≡ got tt (at + 1 + 1 + 1 + 1) (drop (at + 1 + 1 + 1 + 1) s) = rw (w .2) at (expected-on s (getD image (getD sigs t 0) 0) (at + 1 + 1 + 1) x g n e′ z .0) in (
               w .0,
               w .1,
@@ -92,20 +85,14 @@ module _ (image sigs s : List ℕ) (width at : ℕ) (q : Name) (h : NameIs s (le
 
 -- ---- the last entry
 
-drop-last : (l : Environment) (i : ℕ) (t : Ty) → suc i ≡ length l → At l i t → drop i l ≡ t ∷ []
-drop-last [] i t h e = absurd (omega arith)
-drop-last (x ∷ []) zero t h e = cc
-drop-last (x ∷ (y ∷ l)) zero t h e = absurd (omega arith)
-drop-last (x ∷ l) (suc i) t h e = drop-last l i t (omega arith) e
-
 module _ (env : List (List ℕ)) (full : length env ≡ 32) (width : ℕ) (narrow : width ≤ 32) where
   -- the last entry of an environment that is not empty
   pub last-held : 1 ≤ width → (Δ : Environment) → Holds env width Δ → (u : Ty) × At Δ (length Δ - 1) u × (back Δ 1 ≡ u ∷ []) × (getD env (width - 1) [] ≡ typeBytes u)
   last-held h Δ k =
       let n : length Δ ≡ width = holds-length env full width narrow Δ k in
-      with′ (held-entry env width Δ k (omega arith) (width - 1) (omega arith)) λ w.
+      with′ (held-entry typeBytes env width Δ k (omega arith) (width - 1) (omega arith)) λ w.
       let e : At Δ (length Δ - 1) (w .0) = rw n (w .1 .0) in
-      (w .0, e, drop-last Δ (length Δ - 1) (w .0) (omega arith) e, w .1 .1)
+      (w .0, e, drop-at Δ (length Δ - 1) (w .0) (omega arith) e, w .1 .1)
 
   module _ (kind number : ℕ) where
     pub last-none : width ≡ 0 → LastIs env width kind number false
@@ -152,14 +139,14 @@ module _ (image sigs s : List ℕ) (env : List (List ℕ)) (width at : ℕ) (q :
     pub switch-other : r ≡ false → SwitchIs image sigs s env width at (Not 8 at)
     unfolding after need
     switch-other z = switchFails {n = 8} {o = at} (λ Σ Θ inner d Δ p k.
-        with′ (at-signature image sigs s width at q h t e Σ p) λ w.
+        with′ (at-signature image sigs s at q h t e Σ p) λ w.
         rw (w .3, ← (l .is Δ (prd t) k wanted), z))
 
     module _ (z : r ≡ true) (x : Walk) (g : forget (expected (getD image (getD sigs t 0) 0) (at + 1 + 1) (drop (at + 1 + 1) s)) ≡ shown s x) (n : Next (at + 1 + 1) s x) where
       pub switch-count : (k o : ℕ) → x ≡ Bad k o → SwitchIs image sigs s env width at (Not k o)
       unfolding after need
       switch-count k o y = switchFails {n = k} {o = o} (λ Σ Θ inner d Δ p i.
-          with′ (at-signature image sigs s width at q h t e Σ p) λ w.
+          with′ (at-signature image sigs s at q h t e Σ p) λ w.
           let b : expected (length (w .0)) (at + 1 + 1) (drop (at + 1 + 1) s) ≡ refused (fault k o) = rw (w .2) at (shown-bad s (expected (getD image (getD sigs t 0) 0) (at + 1 + 1) (drop (at + 1 + 1) s)) x k o g y) in
           rw (w .3, ← (l .is Δ (prd t) i wanted), z, b))
 
@@ -169,7 +156,7 @@ module _ (image sigs s : List ℕ) (env : List (List ℕ)) (width at : ℕ) (q :
           let i : (at + 1 < length s) × (t ≡ getD s (at + 1) 0) × (t < length sigs) = name-is s (length sigs) (at + 1) q h t e in
           let m : at + 1 + 1 + 1 ≤ length s = expected-on s (getD image (getD sigs t 0) 0) (at + 1 + 1) x g n e′ y .1 in
           switchGoes {sig = getD sigs t 0} m (l .some z) (ap (λ k. getD sigs k 0) (i .1)) (omega arith) (λ Σ Θ inner d Δ p k.
-          with′ (at-signature image sigs s width at q h t e Σ p) λ w.
+          with′ (at-signature image sigs s at q h t e Σ p) λ w.
           let b : expected (length (w .0)) (at + 1 + 1) (drop (at + 1 + 1) s) ≡ got tt (at + 1 + 1 + 1) (drop (at + 1 + 1 + 1) s) = rw (w .2) at (expected-on s (getD image (getD sigs t 0) 0) (at + 1 + 1) x g n e′ y .0) in (
             w .0,
             w .1,
@@ -242,17 +229,7 @@ module _ (s : List ℕ) (at : ℕ) (inside : at ≤ length s) where
 
     pub operation-unknown : (getD s at 0 ≡ 0 → ⊥) → (getD s at 0 ≡ 1 → ⊥) → (getD s at 0 ≡ 2 → ⊥) → (getD s at 0 ≡ 3 → ⊥) → (getD s at 0 ≡ 4 → ⊥) → (getD s at 0 ≡ 5 → ⊥) → (getD s at 0 ≡ 6 → ⊥) → OperationIs s at (TakesUnknown 6 at)
     unfolding after the
-    operation-unknown n0 n1 n2 n3 n4 n5 n6 = operationNot {n = 6} {o = at} (rw code-at (go (getD s at 0) n0 n1 n2 n3 n4 n5 n6))
-      where
-        go : (k : ℕ) → (k ≡ 0 → ⊥) → (k ≡ 1 → ⊥) → (k ≡ 2 → ⊥) → (k ≡ 3 → ⊥) → (k ≡ 4 → ⊥) → (k ≡ 5 → ⊥) → (k ≡ 6 → ⊥) → after (the (getElem? operations k) 6 at (at + 1) (drop (at + 1) s)) (λ r. r) ≡ refused (fault 6 at)
-        go zero a b c d e f g = absurd (a refl)
-        go (suc zero) a b c d e f g = absurd (b refl)
-        go (suc (suc zero)) a b c d e f g = absurd (c refl)
-        go (suc (suc (suc zero))) a b c d e f g = absurd (d refl)
-        go (suc (suc (suc (suc zero)))) a b c d e f g = absurd (e refl)
-        go (suc (suc (suc (suc (suc zero))))) a b c d e f g = absurd (f refl)
-        go (suc (suc (suc (suc (suc (suc zero)))))) a b c d e f g = absurd (g refl)
-        go (suc (suc (suc (suc (suc (suc (suc k))))))) a b c d e f g = refl
+    operation-unknown n0 n1 n2 n3 n4 n5 n6 = operationNot {n = 6} {o = at} (rw (code-at, at-none operations (getD s at 0) (beyond-six (getD s at 0) n0 n1 n2 n3 n4 n5 n6)))
 
 -- ---- invoke
 

@@ -2,23 +2,22 @@
 use Prim.Native.Nat.{ℕ, zero, suc, pred, _+_, _-_, _≤_, _<_}
 use mathlib.Core.Path.{_≡_, refl, sym, _∙_}
 use mathlib.Core.List.{List, _∷_}
-use mathlib.Core.Bool.{true}
 use native.Mathlib.Omega.{arith}
 use lib.ListN.{length, getD, drop}
 use lib.Seq.{drop-cons}
-use borrow.Author.Tests.{le-leb, lt-leb, ne-eqb}
+use borrow.Author.Tests.{le-leb, lt-leb}
 use Rattle.definitions.specs.Terms.{Ty, prd, cns, ext, Environment}
 use Rattle.definitions.specs.Typing.{At}
 use Rattle.definitions.specs.Layout.{kindByte}
 use Rattle.definitions.specs.Reader.{Read, got, Reader, after, need, byte, _>>=_, give, times, count}
-use Rattle.definitions.specs.FirstFault.{sameType, ofSignature, integer, kinds, type, entryType, label, labels}
+use Rattle.definitions.specs.FirstFault.{ofSignature, integer, kinds, type, entryType, label, labels}
 use Rattle.exactness.proofs.Readers.{given, byte-then, need-then, the-then}
 use Rattle.checker.specs.declared.Walk.{Walk}
 use Rattle.checker.specs.declared.Walk.the-variants.{On, Bad}
 use Rattle.checker.specs.Shown.{forget, shown, Within}
 use Rattle.checker.proofs.Bytes.{byte-end, byte-at}
 use Rattle.checker.proofs.Loops.{shown-bad, shown-on, forget-after, Times}
-use Rattle.checker.proofs.TypeLaws.{type-none}
+use Rattle.checker.proofs.TypeLaws.{ext-other, ext-same, type-none}
 
 -- ---- one reader after another
 
@@ -96,11 +95,6 @@ kind-read S at s t e r h q =
         rw w
     go (suc (suc (suc k))) number h q = let z : _≡_ {A = ℕ} 0 1 = cc in absurd (omega arith)
 
-same-ext : (t : Ty) → kindByte t ≡ 2 → sameType t ext ≡ true
-same-ext (prd n) e = absurd (omega arith)
-same-ext (cns n) e = absurd (omega arith)
-same-ext ext e = refl
-
 module _ (s : List ℕ) (S at : ℕ) where
   abbrev Enters : Walk → Type 0
   Enters r = forget (entryType S at (drop at s)) ≡ shown s r
@@ -116,14 +110,14 @@ module _ (s : List ℕ) (S at : ℕ) where
       entry-other k =
           let (t, w) = shown-on s (type S at (drop at s)) q e h g in
           let i : kindByte t ≡ getD s at 0 = kind-read S at s t e (drop e s) (omega arith) w in
-          rw (w, ne-eqb (kindByte t) 2 (λ z. k (sym i ∙ z)))
+          rw (w, ext-other t (λ z. k (sym i ∙ z)))
 
       pub entry-ext : getD s at 0 ≡ 2 → Enters (On e)
       unfolding after need shown
       entry-ext k =
           let (t, w) = shown-on s (type S at (drop at s)) q e h g in
           let i : kindByte t ≡ getD s at 0 = kind-read S at s t e (drop e s) (omega arith) w in
-          rw (w, same-ext t (i ∙ k))
+          rw (w, ext-same t (i ∙ k))
 
   pub entry-none : at ≡ length s → Enters (Bad 3 at)
   entry-none e = entry-bad (Bad 3 at) (type-none s S at (omega arith) e) 3 at refl

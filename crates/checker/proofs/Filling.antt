@@ -1,7 +1,7 @@
 -- Arrays of entries: one more entry, and the entries that types give. Assumes nothing.
 use Prim.Native.Nat.{ℕ, zero, suc, _+_, _≤_, _<_}
 use mathlib.Core.Path.{_≡_, refl, sym, _∙_}
-use mathlib.Core.List.{List, [], _∷_, _++_, map, flatMap, append-assoc, append-nil}
+use mathlib.Core.List.{List, [], _∷_, _++_, map, map-append, flatMap, append-assoc, append-nil}
 use mathlib.Core.Bool.{Bool, true, false, _&&_}
 use native.Mathlib.Numerals.{add-one}
 use native.Mathlib.Omega.{arith}
@@ -13,12 +13,12 @@ use Rattle.definitions.specs.Terms.{Ty, Environment}
 use Rattle.definitions.specs.Layout.{kindByte, numberByte, typeBytes}
 use Rattle.definitions.specs.FirstFault.{sameType, sameTypes}
 use Rattle.checker.specs.Laid.{Holds}
-use Rattle.checker.proofs.Held.{map-append}
+use Rattle.checker.proofs.Lists.{part-at}
 
 -- ---- a loop that fills an array
 
 -- the first n of a sequence
-pub upto : {A : Type 0} → (ℕ → A) → ℕ → List A
+unfoldable pub upto : {A : Type 0} → (ℕ → A) → ℕ → List A
 upto f zero = []
 upto f (suc n) = upto f n ++ (f n ∷ [])
 
@@ -37,6 +37,12 @@ module _ {A : Type 0} where
       let e : width + (i + 1) ≡ suc (width + i) = omega arith in
       record { entries = rw (e, add-one i, take-suc-set out (width + i) (f i) h, g .entries) (append-assoc (take width env) (upto f i) (f i ∷ [])) }
 
+  -- where nothing stands before them
+  pub fill-next : (f : ℕ → A) (start : List A) (i : ℕ) (out : List A) → i < length out → Filled f start 0 i out → Filled f start 0 (i + 1) (set out i (f i))
+  fill-next f start i out h g =
+      let e : 0 + i ≡ i = omega arith in
+      rw e at (fill-more f start 0 i out (omega arith) g)
+
   pub upto-take : (f : ℕ → A) (l : List A) (d : A) (n : ℕ) → n ≤ length l → ((k : ℕ) → k < n → f k ≡ getD l k d) → upto f n ≡ take n l
   unfolding upto
   upto-take f l d zero h all = refl
@@ -51,39 +57,48 @@ module _ {A : Type 0} where
       let t : upto f n ≡ l = upto-take f l d n (omega arith) all ∙ take-all n l (omega arith) in
       (rw e at (g .entries)) ∙ rw t
 
--- ---- types as bytes
+-- ---- entries of two numbers each
 
 abbrev pub pairAt : List ℕ → ℕ → List ℕ
 pairAt s q = getD s q 0 ∷ getD s (q + 1) 0 ∷ []
 
--- the types whose bytes these are, one after another
-flat-pair : (Γ : Environment) (k : ℕ) → k < length Γ → pairAt (flatMap typeBytes Γ) (k + k) ≡ getD (map typeBytes Γ) k []
-unfolding flatMap
-flat-pair [] k h = absurd (omega arith)
-flat-pair (t ∷ Γ) zero h = refl
-flat-pair (t ∷ Γ) (suc k) h =
-    let e : suc k + suc k ≡ suc (suc (k + k)) = omega arith in
-    let e1 : suc k + suc k + 1 ≡ suc (suc (k + k + 1)) = omega arith in
-    rw (e1, e) (flat-pair Γ k (omega arith))
+-- what f writes of an entry is two numbers: a type's two bytes, or a value's two words
+abbrev pub Two : {A : Type 0} → (A → List ℕ) → Type 0
+Two f = (a : _) → f a ≡ pairAt (f a) 0
 
-module _ (s : List ℕ) (at n : ℕ) (Γ : Environment) (laid : take (n + n) (drop at s) ≡ flatMap typeBytes Γ) where
-  laid-byte : (j : ℕ) → j < n + n → getD s (at + j) 0 ≡ getD (flatMap typeBytes Γ) j 0
-  laid-byte j h = sym (getD-drop at s j 0) ∙ sym (getD-take (n + n) (drop at s) j 0 h) ∙ rw laid
+module _ {A : Type 0} (f : A → List ℕ) (two : Two f) where
+  -- the entries whose numbers these are, one after another
+  flat-pair : (l : List A) (k : ℕ) → k < length l → pairAt (flatMap f l) (k + k) ≡ getD (map f l) k []
+  unfolding flatMap
+  flat-pair [] k h = absurd (omega arith)
+  flat-pair (a ∷ l) zero h = first (f a) (flatMap f l) _ _ (two a)
+    where
+      first : (p xs : List ℕ) (x y : ℕ) → p ≡ x ∷ y ∷ [] → pairAt (p ++ xs) 0 ≡ p
+      first p xs x y e = rw e
+  flat-pair (a ∷ l) (suc k) h =
+      let e : suc k + suc k ≡ suc (suc (k + k)) = omega arith in
+      let e1 : suc k + suc k + 1 ≡ suc (suc (k + k + 1)) = omega arith in
+      rw (e1, e, behind (f a) (flatMap f l) _ _ (two a) (k + k), behind (f a) (flatMap f l) _ _ (two a) (k + k + 1)) (flat-pair l k (omega arith))
+    where
+      behind : (p xs : List ℕ) (x y : ℕ) → p ≡ x ∷ y ∷ [] → (j : ℕ) → getD (p ++ xs) (suc (suc j)) 0 ≡ getD xs j 0
+      behind p xs x y e j = rw e
 
-  pub laid-pair : (k : ℕ) → k < n → length Γ ≡ n → pairAt s (at + (k + k)) ≡ getD (map typeBytes Γ) k []
-  laid-pair k h m =
-      let e : at + (k + k) + 1 ≡ at + (k + k + 1) = omega arith in
-      rw (e, laid-byte (k + k) (omega arith), laid-byte (k + k + 1) (omega arith)) (flat-pair Γ k (omega arith))
+  module _ (s : List ℕ) (at n : ℕ) (l : List A) (laid : take (n + n) (drop at s) ≡ flatMap f l) (many : length l ≡ n) where
+    pub laid-pair : (k : ℕ) → k < n → pairAt s (at + (k + k)) ≡ getD (map f l) k []
+    laid-pair k h =
+        let e : at + (k + k) + 1 ≡ at + (k + k + 1) = omega arith in
+        rw (e, part-at s (flatMap f l) at (n + n) 0 laid (k + k) (omega arith), part-at s (flatMap f l) at (n + n) 0 laid (k + k + 1) (omega arith)) (flat-pair l k (omega arith))
 
-module _ (env : List (List ℕ)) (from n : ℕ) (Δ : Environment) (held : take n (drop from env) ≡ map typeBytes Δ) where
-  held-entry : (k : ℕ) → k < n → getD env (from + k) [] ≡ getD (map typeBytes Δ) k []
-  held-entry k h = sym (getD-drop from env k []) ∙ sym (getD-take n (drop from env) k [] h) ∙ rw held
+    -- what a loop that copies them leaves
+    pub put-pairs : (env : List (List ℕ)) (width i : ℕ) (out : List (List ℕ)) → Filled (λ k. pairAt s (at + (k + k))) env width i out → n ≤ i → i ≤ n → take (width + n) out ≡ take width env ++ map f l
+    put-pairs env width i out g low high = fill-all (λ k. pairAt s (at + (k + k))) env width i out g n low high (map f l) [] (length-map l f ∙ many) laid-pair
+
+pub type-two : Two typeBytes
+type-two t = refl
 
 pub put-types : (env : List (List ℕ)) (width : ℕ) (s : List ℕ) (at n i : ℕ) (out : List (List ℕ)) → Filled (λ k. pairAt s (at + (k + k))) env width i out → n ≤ i → i ≤ n
     → (Δ Γ : Environment) → Holds env width Δ → take (n + n) (drop at s) ≡ flatMap typeBytes Γ → length Γ ≡ n → Holds out (width + n) (Δ ++ Γ)
-put-types env width s at n i out g low high Δ Γ h laid m =
-    fill-all (λ k. pairAt s (at + (k + k))) env width i out g n low high (map typeBytes Γ) [] (length-map Γ typeBytes ∙ m) (λ k l. laid-pair s at n Γ laid k l m)
-    ∙ rw h (sym (map-append Δ Γ))
+put-types env width s at n i out g low high Δ Γ h laid m = put-pairs typeBytes type-two s at n Γ laid m env width i out g low high ∙ rw h (sym (map-append typeBytes Δ Γ))
 
 pub put-entries : (env : List (List ℕ)) (width : ℕ) (from : List (List ℕ)) (at n i : ℕ) (out : List (List ℕ)) → Filled (λ k. getD from (at + k) []) env width i out → n ≤ i → i ≤ n → at + n ≤ length from
     → take (width + n) out ≡ take width env ++ take n (drop at from)
@@ -97,7 +112,7 @@ pub pushed : (env : List (List ℕ)) (width : ℕ) (e : List ℕ) → width < le
 pushed env width e h = rw (add-one width) (take-suc-set env width e h)
 
 pub push-holds : (env out : List (List ℕ)) (width : ℕ) (e : List ℕ) → take (width + 1) out ≡ take width env ++ (e ∷ []) → (Δ : Environment) (t : Ty) → Holds env width Δ → typeBytes t ≡ e → Holds out (width + 1) (Δ ++ (t ∷ []))
-push-holds env out width e p Δ t h b = p ∙ rw (h, ← b) (sym (map-append Δ (t ∷ [])))
+push-holds env out width e p Δ t h b = p ∙ rw (h, ← b) (sym (map-append typeBytes Δ (t ∷ [])))
 
 -- ---- the same types
 
@@ -139,11 +154,11 @@ module _ (env : List (List ℕ)) (from : ℕ) (s : List ℕ) (at n : ℕ) where
   pub same-all : ((k : ℕ) → k < n → SameAt env from s at k) → Compared env from s at n true
   same-all all Δ Γ dn gn held laid = all-same Δ Γ (omega arith) λ k h.
       let l : k < n = omega arith in
-      rw (← (held-entry env from n Δ held k l), ← (laid-pair s at n Γ laid k l gn)) ((all k l) .kind, (all k l) .number)
+      rw (← (part-at env (map typeBytes Δ) from n [] held k l), ← (laid-pair typeBytes type-two s at n Γ laid gn k l)) ((all k l) .kind, (all k l) .number)
 
   module _ (k : ℕ) (l : k < n) where
     other : same (getD env (from + k) []) (pairAt s (at + (k + k))) ≡ false → Compared env from s at n false
-    other ne Δ Γ dn gn held laid = one-other Δ Γ k (omega arith) (omega arith) (rw (← (held-entry env from n Δ held k l), ← (laid-pair s at n Γ laid k l gn)) ne)
+    other ne Δ Γ dn gn held laid = one-other Δ Γ k (omega arith) (omega arith) (rw (← (part-at env (map typeBytes Δ) from n [] held k l), ← (laid-pair typeBytes type-two s at n Γ laid gn k l)) ne)
 
     pub other-kind : (getD (getD env (from + k) []) 0 0 ≡ getD s (at + (k + k)) 0 → ⊥) → Compared env from s at n false
     other-kind ne = other (rw (ne-eqb (getD (getD env (from + k) []) 0 0) (getD s (at + (k + k)) 0) ne))

@@ -11,7 +11,7 @@ use Rattle.definitions.specs.Terms.{Ty, prd, Environment, Signature, let′}
 use Rattle.definitions.specs.Layout.{typeBytes, counted}
 use Rattle.definitions.specs.Ends.{front, back}
 use Rattle.definitions.specs.Typing.{At}
-use Rattle.definitions.specs.Reader.{fault, got, refused, after, need, the, byte, known, expected}
+use Rattle.definitions.specs.Reader.{fault, got, refused, after, need, the, known, expected}
 use Rattle.definitions.specs.FirstFault.{sameTypes}
 use Rattle.checker.specs.declared.Walk.{Walk}
 use Rattle.checker.specs.declared.Walk.the-variants.{On, Bad}
@@ -169,6 +169,14 @@ symbol-list image sig m list p h f =
     with′ (at-some (p .signature) m (rw (signature-count image sig (p .signature) (p .laid)) at h)) λ a.
     record { parameters = a .0; laid = f (p .signature) (a .0) (p .laid) (a .1) }
 
+-- the signature that the byte behind a code names, and how many symbols it has
+pub at-signature : (image sigs s : List ℕ) (at : ℕ) (q : Name) → NameIs s (length sigs) (at + 1) q → (t : ℕ) → q ≡ Is t → (Σ : List Signature) → Placed signatureBytes image sigs Σ
+    → (S : Signature) × Laid image (getD sigs t 0) (signatureBytes S) × (getD image (getD sigs t 0) 0 ≡ length S) × (known Σ (at + 1) (drop (at + 1) s) ≡ got (t, S) (at + 1 + 1) (drop (at + 1 + 1) s))
+at-signature image sigs s at q h t e Σ p =
+    with′ (known-is s (length sigs) (at + 1) q h Σ (p .many) t e) λ w.
+    let l : Laid image (getD sigs t 0) (signatureBytes (w .0)) = p .laid t (w .0) (w .1) in
+    (w .0, l, signature-count image (getD sigs t 0) (w .0) l, w .2)
+
 -- ---- let
 
 module _ (image sigs s : List ℕ) (env : List (List ℕ)) (full : length env ≡ 32) (width : ℕ) (narrow : width ≤ 32) (at : ℕ) (q : Name) (h : NameIs s (length sigs) (at + 1) q) where
@@ -177,18 +185,10 @@ module _ (image sigs s : List ℕ) (env : List (List ℕ)) (full : length env �
   let-signature n o e = letFails {n = n} {o = o} (λ Σ Θ inner d Δ p k. rw (known-not s (length sigs) (at + 1) q h Σ (p .many) n o e))
 
   module _ (t : ℕ) (e : q ≡ Is t) (q′ : Name) (h′ : NameIs s (getD image (getD sigs t 0) 0) (at + 1 + 1) q′) where
-    -- the signature, and how many symbols it has
-    at-signature : (Σ : List Signature) → Placed signatureBytes image sigs Σ
-        → (S : Signature) × Laid image (getD sigs t 0) (signatureBytes S) × (getD image (getD sigs t 0) 0 ≡ length S) × (known Σ (at + 1) (drop (at + 1) s) ≡ got (t, S) (at + 1 + 1) (drop (at + 1 + 1) s))
-    at-signature Σ p =
-        with′ (known-is s (length sigs) (at + 1) q h Σ (p .many) t e) λ w.
-        let l : Laid image (getD sigs t 0) (signatureBytes (w .0)) = p .laid t (w .0) (w .1) in
-        (w .0, l, signature-count image (getD sigs t 0) (w .0) l, w .2)
-
     pub let-symbol : (n o : ℕ) → q′ ≡ Not n o → LetIs image sigs s env width at (Fails n o)
     unfolding after
     let-symbol n o e′ = letFails {n = n} {o = o} (λ Σ Θ inner d Δ p k.
-        with′ (at-signature Σ p) λ w.
+        with′ (at-signature image sigs s at q h t e Σ p) λ w.
         rw (w .3, known-not s (getD image (getD sigs t 0) 0) (at + 1 + 1) q′ h′ (w .0) (w .2) n o e′))
 
     module _ (m : ℕ) (e′ : q′ ≡ Is m) (list : ℕ) (f : Symbol image (getD sigs t 0) m list) (r : Bool) (g : EndsWith image env width list r) where
@@ -203,7 +203,7 @@ module _ (image sigs s : List ℕ) (env : List (List ℕ)) (full : length env �
       pub let-other : r ≡ false → LetIs image sigs s env width at (Fails 8 at)
       unfolding after need
       let-other z = letFails {n = 8} {o = at} (λ Σ Θ inner d Δ p k.
-          with′ (at-signature Σ p) λ w.
+          with′ (at-signature image sigs s at q h t e Σ p) λ w.
           with′ (at-symbol (w .0) (w .1) (w .2) Δ k) λ v.
           rw (w .3, v .3, ← (v .2), z))
 
@@ -216,7 +216,7 @@ module _ (image sigs s : List ℕ) (env : List (List ℕ)) (full : length env �
       pub let-wide : r ≡ true → getD image list 0 ≤ width → width - getD image list 0 ≡ 32 → LetIs image sigs s env width at (Fails 5 at)
       unfolding after need
       let-wide z b y = letFails {n = 5} {o = at} (λ Σ Θ inner d Δ p k.
-          with′ (at-signature Σ p) λ w.
+          with′ (at-signature image sigs s at q h t e Σ p) λ w.
           with′ (at-symbol (w .0) (w .1) (w .2) Δ k) λ v.
           rw (w .3, v .3, ← (v .2), z, lt-leb (length (front Δ (length (v .0)) ++ (prd t ∷ []))) widest (rw (kept-length (v .0) Δ (prd t) k (v .1) b) (omega arith))))
 
@@ -225,7 +225,7 @@ module _ (image sigs s : List ℕ) (env : List (List ℕ)) (full : length env �
       let-goes z b y =
           let x : (at + 1 + 1 < length s) × (m ≡ getD s (at + 1 + 1) 0) × (m < getD image (getD sigs t 0) 0) = name-is s (getD image (getD sigs t 0) 0) (at + 1 + 1) q′ h′ m e′ in
           letGoes {on = at + 1 + 1 + 1} {kept = width - getD image list 0} refl (omega arith) (omega arith) (omega arith) (λ Σ Θ inner d Δ p k.
-          with′ (at-signature Σ p) λ w.
+          with′ (at-signature image sigs s at q h t e Σ p) λ w.
           with′ (at-symbol (w .0) (w .1) (w .2) Δ k) λ v. (
             front Δ (length (v .0)),
             rw (v .1) (holds-front env full width narrow Δ k (length (v .0)) (omega arith)),

@@ -4,7 +4,6 @@ pub mod Lists
 pub mod TypeLaws
 pub mod Counts
 pub mod Places
-pub mod Held
 pub mod Filling
 pub mod Positions
 pub mod Symbols

@@ -1,17 +1,16 @@
 -- Positions in an environment: the walk over them, and the entries that they name. Assumes nothing.
 use Prim.Native.Nat.{ℕ, zero, suc, _+_, _≤_, _<_}
-use mathlib.Core.Path.{_≡_, refl, ap, sym, _∙_}
+use mathlib.Core.Path.{_≡_, ap, sym, _∙_}
 use mathlib.Core.List.{List, [], _∷_, map}
-use mathlib.Core.Bool.{true, false}
 use mathlib.Core.Option.{some}
 use native.Mathlib.Omega.{arith}
-use lib.ListN.{length, getD, getElem?, drop, set, length-map}
+use lib.ListN.{length, getD, getElem?, take, drop, length-map}
 use lib.Seq.{getD-drop}
 use borrow.Author.Count.{below-more}
-use Rattle.definitions.specs.Terms.{Ty, prd, cns, ext, Environment}
-use Rattle.definitions.specs.Layout.{kindByte, typeBytes}
+use Rattle.definitions.specs.Terms.{Environment}
+use Rattle.definitions.specs.Layout.{typeBytes}
 use Rattle.definitions.specs.Reader.{got, after, need, the, times, known}
-use Rattle.definitions.specs.FirstFault.{sameType, argument}
+use Rattle.definitions.specs.FirstFault.{argument}
 use Rattle.exactness.proofs.Readers.{then, known-then}
 use Rattle.checker.specs.declared.Walk.{Walk}
 use Rattle.checker.specs.declared.Walk.the-variants.{On, Bad}
@@ -19,9 +18,9 @@ use Rattle.checker.specs.Shown.{forget, shown}
 use Rattle.checker.specs.Laid.{Holds}
 use Rattle.checker.specs.Entries.{Below, Positions}
 use Rattle.checker.proofs.Bytes.{byte-end, byte-at}
-use Rattle.checker.proofs.Lists.{at-some, at-none}
-use Rattle.checker.proofs.Held.{entry-bytes, held-at, held-length, held-entry}
-use Rattle.checker.proofs.Filling.{Filled, fill-more, fill-all}
+use Rattle.checker.proofs.TypeLaws.{ext-other, ext-same}
+use Rattle.checker.proofs.Lists.{at-some, at-none, written-at, held-at, held-length, held-entry}
+use Rattle.checker.proofs.Filling.{Filled, fill-all}
 
 -- ---- one position
 
@@ -56,18 +55,18 @@ below-next s at i p bound j q b h e k l = below-more (λ (k : ℕ). getD s (at +
 -- ---- the entries that positions name
 
 -- what the walk read
-times-known : (Δ : Environment) (n at : ℕ) (xs : List ℕ) (l : List (ℕ × Ty)) (e : ℕ) (r : List ℕ) → times n (known Δ) at xs ≡ got l e r
-    → (length l ≡ n) × ((k : ℕ) → k < n → getElem? Δ (getD xs k 0) ≡ getElem? (map (λ p. p .1) l) k)
-times-known Δ zero at xs l e r q = let h : l ≡ [] = cc in (rw h, λ k m. absurd (omega arith))
-times-known Δ (suc n) at xs l e r q =
-    known-then Δ at xs _ q λ i a ys e1 h q.
+times-known : {A : Type 0} (l : List A) (n at : ℕ) (xs : List ℕ) (as′ : List (ℕ × A)) (e : ℕ) (r : List ℕ) → times n (known l) at xs ≡ got as′ e r
+    → (length as′ ≡ n) × ((k : ℕ) → k < n → getElem? l (getD xs k 0) ≡ getElem? (map (λ p. p .1) as′) k)
+times-known l zero at xs as′ e r q = let h : as′ ≡ [] = cc in (rw h, λ k m. absurd (omega arith))
+times-known {A = A} l (suc n) at xs as′ e r q =
+    known-then l at xs _ q λ i a ys e1 h q.
     then _ _ _ q λ bs _ zs q2 q.
-    let w = times-known Δ n _ ys bs _ zs q2 in
-    let f : l ≡ (i, a) ∷ bs = cc in
+    let w = times-known l n _ ys bs _ zs q2 in
+    let f : as′ ≡ (i, a) ∷ bs = cc in
     (rw f (ap suc (w .0)), rw (f, e1) (first i a ys bs h (w .1)))
   where
-    first : (i : ℕ) (a : Ty) (ys : List ℕ) (bs : List (ℕ × Ty)) → getElem? Δ i ≡ some a → ((k : ℕ) → k < n → getElem? Δ (getD ys k 0) ≡ getElem? (map (λ p. p .1) bs) k)
-        → (k : ℕ) → k < suc n → getElem? Δ (getD (i ∷ ys) k 0) ≡ getElem? (map (λ p. p .1) ((i, a) ∷ bs)) k
+    first : (i : ℕ) (a : A) (ys : List ℕ) (bs : List (ℕ × A)) → getElem? l i ≡ some a → ((k : ℕ) → k < n → getElem? l (getD ys k 0) ≡ getElem? (map (λ p. p .1) bs) k)
+        → (k : ℕ) → k < suc n → getElem? l (getD (i ∷ ys) k 0) ≡ getElem? (map (λ p. p .1) ((i, a) ∷ bs)) k
     first i a ys bs h w zero m = h
     first i a ys bs h w (suc k) m = w k (omega arith)
 
@@ -75,32 +74,18 @@ times-known Δ (suc n) at xs l e r q =
 abbrev pub namedBy : List ℕ → List (List ℕ) → ℕ → ℕ → List ℕ
 namedBy s env at k = getD env (getD s (at + k) 0) []
 
-pub gather-more : (s : List ℕ) (env start : List (List ℕ)) (at i : ℕ) (out : List (List ℕ)) → i < length out → Filled (namedBy s env at) start 0 i out → Filled (namedBy s env at) start 0 (i + 1) (set out i (namedBy s env at i))
-gather-more s env start at i out h g =
-    let e : 0 + i ≡ i = omega arith in
-    rw e at (fill-more (namedBy s env at) start 0 i out (omega arith) g)
-
-pub gather-all : (s : List ℕ) (env start : List (List ℕ)) (at i : ℕ) (out : List (List ℕ)) → Filled (namedBy s env at) start 0 i out → (count : ℕ) → count ≤ i → i ≤ count
-    → (Δ : Environment) (width : ℕ) → Holds env width Δ → Below s at count width → (l : List (ℕ × Ty)) → times count (known Δ) at (drop at s) ≡ got l (at + count) (drop (at + count) s) → Holds out count (map (λ p. p .1) l)
-gather-all s env start at i out g count low high Δ width held b l q =
-    let w = times-known Δ count at (drop at s) l (at + count) (drop (at + count) s) q in
-    let names : List Ty = map (λ p. p .1) l in
-    let m : length (map typeBytes names) ≡ count = length-map names typeBytes ∙ length-map l (λ p. p .1) ∙ w .0 in
-    let e : 0 + count ≡ count = omega arith in
-    rw e at (fill-all (namedBy s env at) start 0 i out g count low high (map typeBytes names) [] m λ k h.
-    held-at env width Δ held (getD s (at + k) 0) (b k h) ∙ rw (← (getD-drop at s k 0), w .1 k h) (sym (entry-bytes names k)))
+-- the array filled holds the entries named, as f writes them
+pub gather-all : {A : Type 0} (f : A → List ℕ) (s : List ℕ) (env start : List (List ℕ)) (at i : ℕ) (out : List (List ℕ)) → Filled (namedBy s env at) start 0 i out → (count : ℕ) → count ≤ i → i ≤ count
+    → (l : List A) (width : ℕ) → take width env ≡ map f l → Below s at count width → (as′ : List (ℕ × A)) (e : ℕ) (r : List ℕ) → times count (known l) at (drop at s) ≡ got as′ e r → take count out ≡ map f (map (λ p. p .1) as′)
+gather-all {A} f s env start at i out g count low high l width held b as′ e r q =
+    let w = times-known l count at (drop at s) as′ e r q in
+    let names : List A = map (λ p. p .1) as′ in
+    let m : length (map f names) ≡ count = length-map names f ∙ length-map as′ (λ p. p .1) ∙ w .0 in
+    let z : 0 + count ≡ count = omega arith in
+    rw z at (fill-all (namedBy s env at) start 0 i out g count low high (map f names) [] m λ k h.
+    held-at f env width l held (getD s (at + k) 0) (b k h) ∙ rw (← (getD-drop at s k 0), w .1 k h) (sym (written-at f names k)))
 
 -- ---- positions of the type ext
-
-ext-other : (t : Ty) → (kindByte t ≡ 2 → ⊥) → sameType t ext ≡ false
-ext-other (prd n) h = refl
-ext-other (cns n) h = refl
-ext-other ext h = absurd (h refl)
-
-ext-same : (t : Ty) → kindByte t ≡ 2 → sameType t ext ≡ true
-ext-same (prd n) h = absurd (omega arith)
-ext-same (cns n) h = absurd (omega arith)
-ext-same ext h = refl
 
 module _ (s : List ℕ) (env : List (List ℕ)) (width at : ℕ) (full : width ≤ length env) where
   -- the answer for whatever environment the array holds
@@ -115,18 +100,18 @@ module _ (s : List ℕ) (env : List (List ℕ)) (width at : ℕ) (full : width �
     pub argument-far : width ≤ getD s at 0 → Argument (Bad 7 at)
     unfolding after the shown
     argument-far h Δ held =
-        let l : length Δ ≡ width = held-length env width Δ held full in
+        let l : length Δ ≡ width = held-length typeBytes env width Δ held full in
         rw (byte-at s at more, at-none Δ (getD s at 0) (omega arith))
 
     module _ (near : getD s at 0 < width) where
       pub argument-other : (getD (getD env (getD s at 0) []) 0 0 ≡ 2 → ⊥) → Argument (Bad 8 at)
       unfolding after the need shown
       argument-other h Δ held =
-          let (t, (e, b)) = held-entry env width Δ held full (getD s at 0) near in
+          let (t, (e, b)) = held-entry typeBytes env width Δ held full (getD s at 0) near in
           rw (byte-at s at more, e, ext-other t (λ q. h (rw b q)))
 
       pub argument-on : getD (getD env (getD s at 0) []) 0 0 ≡ 2 → Argument (On (at + 1))
       unfolding after the need shown
       argument-on h Δ held =
-          let (t, (e, b)) = held-entry env width Δ held full (getD s at 0) near in
+          let (t, (e, b)) = held-entry typeBytes env width Δ held full (getD s at 0) near in
           rw (byte-at s at more, e, ext-same t (rw b at h))

@@ -1,7 +1,7 @@
 -- Regions, bare clauses, named clauses and extern, in each case. Assumes nothing.
 use Prim.Native.Nat.{ℕ, zero, suc, _+_, _-_, _*_, _≤_, _<_}
 use mathlib.Core.Path.{_≡_, refl, ap, sym, _∙_}
-use mathlib.Core.List.{List, [], _∷_, _++_, map, flatMap, append-nil}
+use mathlib.Core.List.{List, [], _∷_, _++_, map, map-append, flatMap, append-nil}
 use native.Mathlib.Nat.{add-zero, zero-add}
 use native.Mathlib.Numerals.{add-one}
 use native.Mathlib.Omega.{arith}
@@ -10,7 +10,7 @@ use lib.Seq.{drop-cons, drop-drop, drop-length, length-take-le}
 use borrow.Author.Tests.{le-leb, lt-leb, lt-ltb, le-ltb}
 use Rattle.definitions.specs.Limits.{widest, deepest}
 use Rattle.definitions.specs.Terms.{ext, Environment, Signature, extern, clause}
-use Rattle.definitions.specs.Typing.{All, arguments, gains}
+use Rattle.definitions.specs.Typing.{All, arguments}
 use Rattle.definitions.specs.Layout.{named, bare, typeBytes, counted}
 use Rattle.definitions.specs.Reader.{fault, got, refused, after, need, item, end, inRegion, times, expected}
 use Rattle.definitions.specs.FirstFault.{argument, clauses, statement}
@@ -26,7 +26,6 @@ use Rattle.checker.specs.Forms.{OperationIs, operationIs, operationNot}
 use Rattle.checker.specs.Statements.{StatementIs, RegionIs, ClausesFrom, ClausesAre, BareAre, ExternIs, GainIs}
 use Rattle.checker.proofs.Loops.{shown-bad, shown-on, forget-after}
 use Rattle.checker.proofs.Lists.{laid-byte, laid-append, laid-front, Parameters, parameters-at, parameters-length, holds-length, drop-take}
-use Rattle.checker.proofs.Held.{map-append}
 use Rattle.checker.proofs.ClauseHeads.{expected-on, item-short}
 
 -- ---- gains
@@ -228,7 +227,7 @@ module _ (image sigs labels s : List ℕ) (env : List (List ℕ)) (full : length
               (hi : take (before + many + behind) inner ≡ take (before + many) types ++ take behind (drop from env))
               (z : Walk) (y : RegionIs image sigs labels s inner (before + many + behind) (depth + 1) e₁ z) where
             inner-holds : (Γ Γ′ ps : Environment) → Holds env before Γ → take behind (drop from env) ≡ map typeBytes Γ′ → many ≡ length ps → take (many + many) (drop (list + 1) image) ≡ flatMap typeBytes ps → Holds inner (before + many + behind) (Γ ++ ps ++ Γ′)
-            inner-holds Γ Γ′ ps c d n t = rw (hi, ht Γ ps c t (sym n), d) (sym (map-append (Γ ++ ps) Γ′))
+            inner-holds Γ Γ′ ps c d n t = rw (hi, ht Γ ps c t (sym n), d) (sym (map-append typeBytes (Γ ++ ps) Γ′))
 
             behind-symbol : e₁ ≡ p + 1
             behind-symbol = (rw g₁ at next) .0

@@ -27,7 +27,7 @@ use Rattle.checker.specs.Forms.{Inner, JumpIs, InvokeIs, LetIs, letGoes,
 use Rattle.checker.specs.Statements.{StatementIs, ClausesAre, ExternIs}
 use Rattle.checker.proofs.Bytes.{byte-end, byte-at}
 use Rattle.checker.proofs.Loops.{shown-bad, shown-on, forget-after}
-use Rattle.checker.proofs.Lists.{holds-length, holds-front, holds-back}
+use Rattle.checker.proofs.Lists.{holds-length, holds-front, holds-back, at-none, beyond-six}
 use Rattle.checker.proofs.FormLaws.{signature-at}
 
 module _ (image sigs labels s : List ℕ) (depth : ℕ) where
@@ -229,18 +229,7 @@ module _ (image sigs labels s : List ℕ) (depth : ℕ) where
 
     pub a-code : (getD s p 0 ≡ 0 → ⊥) → (getD s p 0 ≡ 1 → ⊥) → (getD s p 0 ≡ 2 → ⊥) → (getD s p 0 ≡ 3 → ⊥) → (getD s p 0 ≡ 4 → ⊥) → (getD s p 0 ≡ 5 → ⊥) → (getD s p 0 ≡ 6 → ⊥) → Answers env width p (Bad 6 p)
     unfolding after the shown
-    a-code n0 n1 n2 n3 n4 n5 n6 = coded (getD s p 0) refl (Bad 6 p) (λ Σ Θ Δ f a b k w. go (getD s p 0) n0 n1 n2 n3 n4 n5 n6 Σ Θ f Δ)
-      where
-        go : (k : ℕ) → (k ≡ 0 → ⊥) → (k ≡ 1 → ⊥) → (k ≡ 2 → ⊥) → (k ≡ 3 → ⊥) → (k ≡ 4 → ⊥) → (k ≡ 5 → ⊥) → (k ≡ 6 → ⊥) → (Σ : List Signature) (Θ : List Environment) (f : ℕ) (Δ : Environment)
-            → forget (after (the (getElem? (forms Σ Θ (statement Σ Θ f)) k) 6 p (p + 1) (drop (p + 1) s)) (λ form. form p depth Δ)) ≡ refused (fault 6 p)
-        go zero a b c d e f g Σ Θ n Δ = absurd (a refl)
-        go (suc zero) a b c d e f g Σ Θ n Δ = absurd (b refl)
-        go (suc (suc zero)) a b c d e f g Σ Θ n Δ = absurd (c refl)
-        go (suc (suc (suc zero))) a b c d e f g Σ Θ n Δ = absurd (d refl)
-        go (suc (suc (suc (suc zero)))) a b c d e f g Σ Θ n Δ = absurd (e refl)
-        go (suc (suc (suc (suc (suc zero))))) a b c d e f g Σ Θ n Δ = absurd (f refl)
-        go (suc (suc (suc (suc (suc (suc zero)))))) a b c d e f g Σ Θ n Δ = absurd (g refl)
-        go (suc (suc (suc (suc (suc (suc (suc k))))))) a b c d e f g Σ Θ n Δ = refl
+    a-code n0 n1 n2 n3 n4 n5 n6 = coded (getD s p 0) refl (Bad 6 p) (λ Σ Θ Δ f a b k w. rw (at-none (forms Σ Θ (statement Σ Θ f)) (getD s p 0) (beyond-six (getD s p 0) n0 n1 n2 n3 n4 n5 n6)))
 
 pub below-all : (s : List ℕ) (at count width : ℕ) → width ≤ 32 → Below s at count width → Below s at count 32
 below-all s at count width l b k h = omega (arith, b k h)

@@ -2,15 +2,32 @@
 use Prim.Native.Nat.{ℕ, zero, suc, _+_, _≤_, _<_}
 use mathlib.Core.Path.{_≡_, refl}
 use mathlib.Core.List.{List}
+use mathlib.Core.Bool.{true, false}
 use native.Mathlib.Omega.{arith}
 use lib.ListN.{length, getD, getElem?, drop}
 use borrow.Author.Tests.{lt-ltb, le-ltb, ne-eqb}
+use Rattle.definitions.specs.Terms.{Ty, prd, cns, ext}
+use Rattle.definitions.specs.Layout.{kindByte}
 use Rattle.definitions.specs.Reader.{got, after, need, the, byte}
-use Rattle.definitions.specs.FirstFault.{kinds, type}
+use Rattle.definitions.specs.FirstFault.{sameType, kinds, type}
 use Rattle.checker.specs.declared.Walk.{Walk}
 use Rattle.checker.specs.declared.Walk.the-variants.{On, Bad}
 use Rattle.checker.specs.Shown.{forget, shown}
 use Rattle.checker.proofs.Bytes.{byte-end, byte-at}
+
+-- ---- a type of kind ext
+
+pub ext-other : (t : Ty) → (kindByte t ≡ 2 → ⊥) → sameType t ext ≡ false
+ext-other (prd n) h = refl
+ext-other (cns n) h = refl
+ext-other ext h = absurd (h refl)
+
+pub ext-same : (t : Ty) → kindByte t ≡ 2 → sameType t ext ≡ true
+ext-same (prd n) h = absurd (omega arith)
+ext-same (cns n) h = absurd (omega arith)
+ext-same ext h = refl
+
+-- ---- the reader
 
 module _ (s : List ℕ) (S at : ℕ) (h : at ≤ length s) where
   abbrev Reads : Walk → Type 0

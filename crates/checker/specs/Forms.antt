@@ -3,7 +3,7 @@ use Prim.Native.Nat.{ℕ, _+_, _<_, _≤_}
 use mathlib.Core.Path.{_≡_}
 use mathlib.Core.List.{List, [], _∷_, _++_, map}
 use lib.ListN.{length, getD, drop, replicate}
-use Rattle.definitions.specs.Terms.{Ty, prd, cns, ext, Environment, Signature, Operation, Statement, new, switch}
+use Rattle.definitions.specs.Terms.{Ty, prd, cns, ext, Environment, Signature, Operation, Statement, new}
 use Rattle.definitions.specs.Typing.{arguments, gains}
 use mathlib.Core.Bool.{Bool, true}
 use Rattle.definitions.specs.Layout.{named, typeBytes}

@@ -1,15 +1,13 @@
 // The tests of each form of statement that stand before its clauses or its remainder.
 ghost use mathlib.Core.Path.{_≡_};
 ghost use mathlib.Core.Bool.{true};
-ghost use mathlib.Core.List.{List, [], _∷_};
-ghost use Prim.Native.Nat.{ℕ, _+_, _-_, _≤_, _<_};
-ghost use lib.ListN.{length, getD, take, drop};
-ghost use Rattle.definitions.specs.Terms.{Ty, Environment, Signature};
-ghost use Rattle.definitions.specs.Layout.{typeBytes};
+ghost use Prim.Native.Nat.{_+_, _-_, _≤_, _<_};
+ghost use lib.ListN.{length, getD, drop};
+ghost use Rattle.definitions.specs.Terms.{Environment};
 ghost use Rattle.definitions.specs.FirstFault.{sameTypes};
-ghost use Rattle.definitions.specs.Ends.{front, back};
+ghost use Rattle.definitions.specs.Ends.{back};
 ghost use Rattle.definitions.specs.Reader.{expected};
-ghost use Rattle.checker.specs.Laid.{Laid, Holds, Known, SignatureAt, ParametersAt, parametersBytes, signatureBytes};
+ghost use Rattle.checker.specs.Laid.{Laid, Holds, Known, ParametersAt, parametersBytes, signatureBytes};
 ghost use Rattle.checker.specs.Shown.{forget, shown, Within, Next};
 ghost use Rattle.checker.specs.Forms.{NameIs, JumpIs, InvokeIs, LetIs, NewIs, SwitchIs, SubstituteIs, OperationIs, LastIs};
 use crate::Name;

@@ -1,9 +1,8 @@
 // Statements and clauses, which contain one another.
-ghost use mathlib.Core.Path.{_≡_};
-ghost use Prim.Native.Nat.{ℕ, _+_, _-_, _≤_, _<_};
-ghost use lib.ListN.{length, getD, take, drop};
+ghost use Prim.Native.Nat.{_+_, _-_, _≤_, _<_};
+ghost use lib.ListN.{length};
 ghost use Rattle.checker.specs.Laid.{Known, SignatureAt, signatureBytes, parametersBytes};
-ghost use Rattle.checker.specs.Shown.{forget, shown, Within};
+ghost use Rattle.checker.specs.Shown.{Within};
 ghost use Rattle.checker.specs.Statements.{StatementIs, RegionIs, ClausesAre, BareAre, ExternIs, GainIs};
 use crate::Name;
 use crate::Step;

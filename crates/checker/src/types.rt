@@ -1,6 +1,6 @@
 // A type as two bytes: its kind, and the number of its signature.
 ghost use mathlib.Core.Path.{_≡_};
-ghost use mathlib.Core.List.{List, [], _∷_};
+ghost use mathlib.Core.List.{[], _∷_};
 ghost use Rattle.definitions.specs.Terms.{prd, cns, ext};
 ghost use Rattle.definitions.specs.Layout.{typeBytes};
 

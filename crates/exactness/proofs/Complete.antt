@@ -1,26 +1,24 @@
 -- A typed statement's bytes are read back, with no fault.
-use Prim.Native.Nat.{ℕ, zero, suc, _+_, _-_, _*_, _/_, _%_, _≤_, _<_}
-use mathlib.Core.Path.{_≡_, refl, ap, ap₂, sym, _∙_}
-use mathlib.Core.List.{List, [], _∷_, _++_, append-nil, append-assoc, map, Forall₂, Forall₂·nil, Forall₂·cons}
-use mathlib.Core.Bool.{Bool, true, false, _&&_}
-use mathlib.Core.Option.{Option, none, some}
+use Prim.Native.Nat.{ℕ, zero, suc, _+_, _-_, _≤_}
+use mathlib.Core.Path.{_≡_, refl, ap, _∙_}
+use mathlib.Core.List.{List, [], _∷_, _++_, append-nil, append-assoc, map, Forall₂·nil, Forall₂·cons}
+use mathlib.Core.Option.{some}
 use native.Mathlib.Nat.{not-suc-le-zero}
 use native.Mathlib.Omega.{arith}
-use lib.ListN.{length, getElem?, take, drop, length-append}
-use lib.Seq.{take-append-seam, drop-append-seam, take-at, drop-at}
-use lib.Dec.{leb, ltb, eqb}
+use lib.ListN.{length, length-append}
+use lib.Seq.{take-append-seam, drop-append-seam}
 use borrow.Author.Tests.{le-leb, lt-ltb, eq-eqb}
 use Rattle.definitions.specs.Limits.{widest, deepest}
 use Rattle.definitions.specs.Terms.{Ty, prd, cns, ext, Environment, Signature, Operation, lit, add, sub, mul, ifz, less, exit}
-use Rattle.definitions.specs.Terms.{Statement, Clauses, none as noClauses, clause}
-use Rattle.definitions.specs.Typing.{At, All, Named, arguments, gains, Typed, TypedClauses, JUMP, SUBSTITUTE, EXTERN, LET, NEW, SWITCH, INVOKE, NONE, CLAUSE}
+use Rattle.definitions.specs.Terms.{Statement, Clauses}
+use Rattle.definitions.specs.Typing.{At, All, Named, arguments, Typed, TypedClauses, JUMP, SUBSTITUTE, EXTERN, LET, NEW, SWITCH, INVOKE, NONE, CLAUSE}
 use Rattle.definitions.specs.Layout.{region, operationByte, literalBytes, Head, named, bare, headBytes, clauseCount, statementBytes, clausesBytes}
 use Rattle.definitions.specs.Ends.{front, back, last}
-use Rattle.definitions.specs.Reader.{Read, got, refused, Reader, after, need, the, byte, item, end, inRegion, times, count, known, expected}
+use Rattle.definitions.specs.Reader.{Read, got, Reader, after, need, the, byte, end, inRegion, times, known}
 use Rattle.definitions.specs.FirstFault.{argument, operation, head, clauses, aStatement, statement}
 use Rattle.exactness.proofs.Readers.{same-place, upto-complete, expected-complete}
-use Rattle.exactness.proofs.Numbers.{item-complete, length-bigEndian}
-use Rattle.exactness.proofs.Header.{sameType-refl, sameTypes-refl}
+use Rattle.exactness.proofs.Numbers.{item-complete}
+use Rattle.exactness.proofs.Header.{sameTypes-refl}
 
 -- ---- the ends of an environment
 

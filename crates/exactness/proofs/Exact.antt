@@ -1,24 +1,23 @@
 -- Whole images: an image is accepted exactly where its first fault is 0 at its length, and it has one reading.
-use Prim.Native.Nat.{ℕ, zero, suc, _+_, _/_, _%_, _≤_, _<_}
-use mathlib.Core.Path.{_≡_, refl, ap, ap₂, sym, _∙_}
-use mathlib.Core.List.{List, [], _∷_, _++_, append-nil, append-assoc, flatMap, Forall₂, Forall₂·nil, Forall₂·cons}
-use mathlib.Core.Bool.{Bool, true, false, _&&_}
+use Prim.Native.Nat.{ℕ, suc, _+_, _/_, _%_, _≤_}
+use mathlib.Core.Path.{_≡_, refl, ap}
+use mathlib.Core.List.{List, [], _∷_, _++_, append-nil, append-assoc, Forall₂, Forall₂·nil, Forall₂·cons}
 use native.Mathlib.Omega.{arith}
 use lib.ListN.{length, length-append}
-use lib.Dec.{leb, eqb}
+use lib.Dec.{leb}
 use borrow.Author.Tests.{le-leb, eq-eqb, leb-true, eqb-true}
 use Rattle.definitions.specs.Limits.{version, largestImage}
 use Rattle.definitions.specs.Terms.{Environment, Signature, Statement, Program}
 use Rattle.definitions.specs.Typing.{Typed, TypedProgram}
 use Rattle.definitions.specs.Layout.{Bytes, region, statementBytes, bodiesBytes, content, layout, Accepted}
-use Rattle.definitions.specs.Reader.{Fault, fault, Read, got, refused, Reader, after, need, byte, item, end, inRegion}
+use Rattle.definitions.specs.Reader.{fault, Read, got, refused, after, need, byte, end}
 use Rattle.definitions.specs.FirstFault.{signatures, labels, statement, bodies, program, readImage, verdict, firstFault}
-use Rattle.exactness.proofs.Readers.{given, then, byte-then, need-then, end-then, with′, and-true, same-place, bytes-tail, Reads, Sound}
+use Rattle.exactness.proofs.Readers.{then, byte-then, need-then, end-then, with′, and-true, same-place, bytes-tail, Sound}
 use Rattle.exactness.proofs.Numbers.{item-complete, item-then}
 use Rattle.exactness.proofs.Header.{signaturesBytes, labelsBytes, signatures-complete, signatures-sound, labels-complete, labels-sound}
 use Rattle.exactness.proofs.Complete.{region-complete, statement-complete}
 use Rattle.exactness.proofs.Sound.{region-sound, statement-sound}
-use Rattle.exactness.proofs.Numbered.{image-numbered}
+use Rattle.exactness.proofs.Faults.{image-numbered}
 
 module _ (Σ : List Signature) (Θ : List Environment) (k : ℕ) where
   bodies-complete : {Δs : List Environment} {ss : List Statement} → Forall₂ (Typed Σ Θ 0) Δs ss → (at : ℕ) (rest : List ℕ) → length (bodiesBytes ss) ≤ k → bodies Σ Θ k Δs at (bodiesBytes ss ++ rest) ≡ got ss (at + length (bodiesBytes ss)) rest

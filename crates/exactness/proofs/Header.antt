@@ -1,23 +1,27 @@
 -- The head of an image, read and laid out: types, signatures, labels.
 use Prim.Native.Nat.{ℕ, zero, suc, pred, _+_, _≤_, _<_}
-use mathlib.Core.Path.{_≡_, refl, ap, ap₂, sym, _∙_}
+use mathlib.Core.Path.{_≡_, refl, ap, ap₂}
 use mathlib.Core.List.{List, [], _∷_, _++_, append-assoc, flatMap}
-use mathlib.Core.Bool.{Bool, true, false, _&&_}
-use mathlib.Core.Option.{some}
+use mathlib.Core.Bool.{true}
 use native.Mathlib.Omega.{arith}
-use lib.ListN.{length, getElem?, length-append}
-use lib.Dec.{ltb, eqb}
+use lib.ListN.{length, length-append}
 use borrow.Author.Tests.{lt-ltb, eq-eqb, ltb-true, eqb-true}
 use Rattle.definitions.specs.Limits.{mostSignatures, mostSymbols, mostParameters, mostLabels, widest, LawfulSymbolCount}
 use Rattle.definitions.specs.Terms.{Ty, prd, cns, ext, Environment, Signature}
 use Rattle.definitions.specs.Typing.{At, All, KnownType, Parameters, Entry}
 use Rattle.definitions.specs.Layout.{Bytes, kindByte, numberByte, typeBytes, counted}
 use Rattle.definitions.specs.Reader as R
-use Rattle.definitions.specs.Reader.{Read, got, Reader, after, need, the, byte, times}
+use Rattle.definitions.specs.Reader.{got, Reader, after, need, the, byte}
 use Rattle.definitions.specs.FirstFault.{sameType, sameTypes, ofSignature, integer, kinds, type, entryType, symbol, signature, signatures, label, labels}
-use Rattle.exactness.proofs.Readers.{given, then, byte-then, need-then, the-then, with′, and-true, same-place, bytes-tail, Complete, Sound, Reads, one, count-complete, count-sound, upto-complete, upto-sound, counted-complete, counted-sound, times-complete, times-sound}
+use Rattle.exactness.proofs.Readers.{given, then, byte-then, need-then, the-then, with′, and-true, same-place, bytes-tail, Complete, Sound, Reads, count-complete, count-sound, upto-complete, upto-sound, counted-complete, counted-sound, times-complete, times-sound}
 
 -- ---- the equality tests
+
+-- what holds of all entries holds of each
+pub all-at : {A : Type 0} (R : A → Type 0) (l : List A) (i : ℕ) {x : A} → All R l → At l i x → R x
+all-at R [] i a e = let z : _≡_ {A = ℕ} 0 1 = cc in absurd (omega arith)
+all-at R (y ∷ l) zero {x} a e = let q : y ≡ x = cc in rw q at (a .0)
+all-at R (y ∷ l) (suc i) a e = all-at R l i (a .1) e
 
 pub sameType-refl : (t : Ty) → sameType t t ≡ true
 sameType-refl t = rw (eq-eqb (kindByte t) (kindByte t) refl, eq-eqb (numberByte t) (numberByte t) refl)

@@ -1,6 +1,6 @@
 -- Laws of numbers in bytes, the most significant first.
 use Prim.Native.Nat.{ℕ, zero, suc, _+_, _*_, _/_, _%_, _^_, _≤_, _<_}
-use mathlib.Core.Path.{_≡_, refl, ap, ap₂, sym, _∙_}
+use mathlib.Core.Path.{_≡_, refl, ap, _∙_}
 use mathlib.Core.List.{List, [], _∷_, _++_, append-nil, append-assoc}
 use native.Mathlib.Nat.{div-add-mod', zero-add, suc-add, add-suc, le-trans, mul-le-mul-right, pow-suc}
 use native.Mathlib.Omega.{arith}
@@ -44,7 +44,7 @@ bigEndian-spelt k (x ∷ xs) l b =
     rw zero-add (ap (λ j. bigEndian j (spelt x xs)) e ∙ bigEndian-spelt-after xs x 0 (λ i. b (suc i)))
 
 -- and it is small
-spelt-below : (xs : List ℕ) (n : ℕ) → Bytes xs → spelt n xs < suc n * 256 ^ length xs
+pub spelt-below : (xs : List ℕ) (n : ℕ) → Bytes xs → spelt n xs < suc n * 256 ^ length xs
 spelt-below [] n b = omega arith
 spelt-below (x ∷ xs) n b =
     let h : x < 256 = b 0 in

@@ -1,18 +1,18 @@
 -- Laws of readers: what a reader that gave something did first, and what a reader gives on what was laid out.
-use Prim.Native.Nat.{ℕ, zero, suc, _+_, _*_, _/_, _%_, _≤_, _<_}
-use mathlib.Core.Path.{_≡_, refl, ap, ap₂, sym, _∙_}
-use mathlib.Core.List.{List, [], _∷_, _++_, append-nil, append-assoc, flatMap}
+use Prim.Native.Nat.{ℕ, zero, suc, _+_, _≤_}
+use mathlib.Core.Path.{_≡_, refl, ap}
+use mathlib.Core.List.{List, [], _∷_, _++_, append-assoc, flatMap}
 use mathlib.Core.Bool.{Bool, true, false, _&&_}
 use mathlib.Core.Option.{Option, none, some}
 use native.Mathlib.Omega.{arith}
-use lib.ListN.{length, getElem?, getD, take, drop, length-append}
+use lib.ListN.{length, take, drop, length-append}
 use lib.Seq.{getD-append-add, getD-drop}
-use lib.Dec.{leb, ltb, eqb}
-use borrow.Author.Tests.{le-leb, lt-ltb, eq-eqb, leb-true, ltb-true, eqb-true}
+use lib.Dec.{leb}
+use borrow.Author.Tests.{le-leb, eq-eqb, leb-true, eqb-true}
 use Rattle.definitions.specs.Typing.{At, All}
 use Rattle.definitions.specs.Layout.{Bytes, counted}
 use Rattle.definitions.specs.Reader as R
-use Rattle.definitions.specs.Reader.{Fault, fault, Read, got, refused, Reader, after, need, the, byte, item, end, times, count, known, expected}
+use Rattle.definitions.specs.Reader.{Fault, Read, got, refused, Reader, after, need, the, byte, end, times, count, known, expected}
 
 -- ---- readings as equations
 

@@ -1,22 +1,20 @@
 -- Bytes that are read with no fault are those of a typed statement.
-use Prim.Native.Nat.{ℕ, zero, suc, _+_, _-_, _*_, _/_, _%_, _≤_, _<_}
-use mathlib.Core.Path.{_≡_, refl, ap, ap₂, sym, _∙_}
-use mathlib.Core.List.{List, [], _∷_, _++_, append-nil, append-assoc, map, flatMap, Forall₂, Forall₂·nil, Forall₂·cons}
-use mathlib.Core.Bool.{Bool, true, false, _&&_}
-use mathlib.Core.Option.{Option, none, some}
+use Prim.Native.Nat.{ℕ, zero, suc, _+_, _-_}
+use mathlib.Core.Path.{_≡_, refl, ap, sym, _∙_}
+use mathlib.Core.List.{List, [], _∷_, _++_, append-nil, append-assoc, map, flatMap, Forall₂·nil, Forall₂·cons}
+use mathlib.Core.Option.{some}
 use native.Mathlib.Omega.{arith}
-use lib.ListN.{length, getElem?, take, drop, length-append, length-drop, length-map, take-append-drop}
+use lib.ListN.{length, take, drop, length-drop, length-map, take-append-drop}
 use lib.Seq.{length-take-le}
-use lib.Dec.{leb, ltb, eqb}
 use borrow.Author.Tests.{leb-true, ltb-true, eqb-true}
 use Rattle.definitions.specs.Limits.{widest, deepest}
 use Rattle.definitions.specs.Terms.{Ty, prd, cns, ext, Environment, Signature, Operation, lit, add, sub, mul, ifz, less, exit}
-use Rattle.definitions.specs.Terms.{Statement, jump, substitute, extern, let′, new, switch, invoke, Clauses, none as noClauses, clause}
+use Rattle.definitions.specs.Terms.{Statement, jump, substitute, extern, let′, new, switch, invoke, none as noClauses, clause}
 use Rattle.definitions.specs.Typing.{At, All, Named, arguments, gains, LiteralFits, Typed, TypedClauses, JUMP, SUBSTITUTE, EXTERN, LET, NEW, SWITCH, INVOKE, NONE, CLAUSE}
-use Rattle.definitions.specs.Layout.{Bytes, region, operationByte, literalBytes, Head, named, bare, headBytes, clauseCount, statementBytes, clausesBytes}
+use Rattle.definitions.specs.Layout.{Bytes, region, operationByte, literalBytes, Head, named, bare, headBytes, statementBytes, clausesBytes}
 use Rattle.definitions.specs.Ends.{front, back, last}
-use Rattle.definitions.specs.Reader.{Read, got, refused, Reader, after, give, need, the, byte, item, end, inRegion, times, count, known, expected}
-use Rattle.definitions.specs.FirstFault.{sameType, consumes, literal, argument, operations, operation, head, clauses, aJump, aSubstitute, anExtern, aLet, aNew, aSwitch, anInvoke, Form, forms, aStatement, statement}
+use Rattle.definitions.specs.Reader.{got, Reader, give, inRegion, known}
+use Rattle.definitions.specs.FirstFault.{consumes, literal, argument, operations, operation, head, clauses, aJump, aSubstitute, anExtern, aLet, aNew, aSwitch, anInvoke, Form, forms, statement}
 use Rattle.exactness.proofs.Readers.{refused≢got, given, then, byte-then, need-then, need-last, the-then, end-then, known-then, expected-then, with′, bytes-tail, bytes-take, bytes-drop, Sound, Reads, one, upto-sound, times-sound}
 use Rattle.exactness.proofs.Numbers.{item-then}
 use Rattle.exactness.proofs.Header.{sameType-true, sameTypes-true}
@@ -27,7 +25,7 @@ use Rattle.exactness.proofs.Complete.{arguments-ext, clauseCount-typed}
 split-back : (Δ : Environment) (n : ℕ) (Γ : Environment) → back Δ n ≡ Γ → Δ ≡ front Δ n ++ Γ
 split-back Δ n Γ e = sym (take-append-drop (length Δ - n) Δ) ∙ ap (λ z. front Δ n ++ z) e
 
-drop-at : (l : Environment) (i : ℕ) (t : Ty) → suc i ≡ length l → At l i t → drop i l ≡ t ∷ []
+pub drop-at : (l : Environment) (i : ℕ) (t : Ty) → suc i ≡ length l → At l i t → drop i l ≡ t ∷ []
 drop-at [] i t h e = absurd (omega arith)
 drop-at (x ∷ []) zero t h e = cc
 drop-at (x ∷ (y ∷ l)) zero t h e = absurd (omega arith)

@@ -1,5 +1,4 @@
 pub mod Filling
-pub mod Named
 pub mod Arithmetic
 pub mod Inverse
 pub mod ClauseLaws

@@ -17,7 +17,7 @@ use Rattle.definitions.specs.RawMachine.{Configuration, step}
 use Rattle.definitions.specs.Answer.{start, runTrees, answer, answerOf, refusal}
 use Rattle.definitions.proofs.Rows as Table
 use Rattle.exactness.proofs.Exact as Exact
-use Rattle.exactness.proofs.Offsets as Offsets
+use Rattle.exactness.proofs.Faults as Faults
 use Rattle.lockstep.proofs.Together.{Together}
 use Rattle.lockstep.proofs.Whole as Whole
 use Rattle.lockstep.proofs.Answers as Answers
@@ -40,7 +40,7 @@ demand-1-number = Exact.number-refused
 
 -- Demand 1: the place is inside the image: its offset is at most the image's length, whatever the bytes.
 demand-1-place : (image : List ℕ) → firstFault image .offset ≤ length image
-demand-1-place = Offsets.offset-inside
+demand-1-place = Faults.offset-inside
 
 -- One reading: so "the program of an accepted image" makes sense.
 one-reading : (p q : Program) → TypedProgram p → TypedProgram q → layout p ≡ layout q → p ≡ q

@@ -2,6 +2,7 @@ use native.Mathlib.Omega.{arith}
 use Prim.Native.Nat.{_+_, _-_, _≤_, _<_}
 use mathlib.Core.Path.{_≡_, refl}
 use lib.ListN.{length, length-set}
+use Rattle.definitions.specs.Layout.{typeBytes}
 use Rattle.checker.proofs.Filling as filling
 use Rattle.checker.proofs.Positions as law
 use Rattle.checker.proofs.entries.gather.Statement.{statement}
@@ -45,10 +46,10 @@ loop-less c = omega arith
 
 loop-again : tie.Need-loop-again Inv-loop μ-loop
 loop-again c = let l : c .before .before .before .loop .i < length (c .before .before .before .loop .out) = omega arith in
-    (omega arith, (simp length-set (c .before .before .before .loop .inv .1 .0), law.gather-more (c .before .before .before .before .args .s .now) (c .before .before .before .before .args .t2) _ (c .before .before .before .before .args .at) (c .before .before .before .loop .i) (c .before .before .before .loop .out) l (c .before .before .before .loop .inv .1 .1)))
+    (omega arith, (simp length-set (c .before .before .before .loop .inv .1 .0), filling.fill-next (law.namedBy (c .before .before .before .before .args .s .now) (c .before .before .before .before .args .t2) (c .before .before .before .before .args .at)) _ (c .before .before .before .loop .i) (c .before .before .before .loop .out) l (c .before .before .before .loop .inv .1 .1)))
 
 returns : tie.Need-returns Inv-loop μ-loop
-returns c = law.gather-all _ _ _ _ _ _ (c .before .loop .inv .1 .1) _ (c .loop-test .left) (c .before .loop .inv .0)
+returns c = λ Δ width held b l q. law.gather-all typeBytes _ _ _ _ _ _ (c .before .loop .inv .1 .1) _ (c .loop-test .left) (c .before .loop .inv .0) Δ width held b l _ _ q
 
 pub gather-spec : {M : Type 1} → statement M
 gather-spec =
