@@ -6,18 +6,18 @@ ghost use Rattle.definitions.specs.Answer.{answer};
 
 // The number and offset of the first fault, laid out as C lays out a struct.
 #[repr(C)]
-pub struct Answer {
+pub struct Verdict {
     pub number: u8,
     pub offset: u64,
 }
 
 // The first fault of a byte string: 0 at its length where there is none.
 #[no_mangle]
-pub extern "C" fn axcut_check(image: &[u8]) -> Answer
+pub extern "C" fn axcut_check(image: &[u8]) -> Verdict
     ensures { λ r. ⌜ fault (r .number) (r .offset) ≡ firstFault (now (image .entry)) ⌝ }
 {
     let verdict = checker::check(image);
-    Answer {
+    Verdict {
         number: verdict.number,
         offset: verdict.offset as u64,
     }
@@ -25,7 +25,7 @@ pub extern "C" fn axcut_check(image: &[u8]) -> Answer
 
 // How a run ended, or why it was refused; after how many steps, with how many words stored, and the exit value.
 #[repr(C)]
-pub struct Ran {
+pub struct Answer {
     pub number: u8,
     pub steps: u32,
     pub words: u32,
@@ -34,14 +34,14 @@ pub struct Ran {
 
 // The run of an image with arguments, fuel and a lent table: its answer, and the whole table after it.
 #[no_mangle]
-pub extern "C" fn axcut_run(image: &[u8], args: &[u64], fuel: u32, table: &mut [u64]) -> Ran
+pub extern "C" fn axcut_run(image: &[u8], args: &[u64], fuel: u32, table: &mut [u64]) -> Answer
     ensures { λ r. ⌜ answer (now (image .entry)) (now (args .entry)) fuel (now (table .entry)) ≡ record { number = r .number; steps = r .steps; words = r .words; value = r .value; table = now (table .exit) } ⌝ }
 {
-    let ran = runner::run(image, args, fuel, table);
-    Ran {
-        number: ran.number,
-        steps: ran.steps,
-        words: ran.words,
-        value: ran.value,
+    let answer = runner::run(image, args, fuel, table);
+    Answer {
+        number: answer.number,
+        steps: answer.steps,
+        words: answer.words,
+        value: answer.value,
     }
 }

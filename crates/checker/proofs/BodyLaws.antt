@@ -52,9 +52,11 @@ pub record BodiesFrom (image sigs labels : List ℕ) (l p : ℕ) (r : Walk) : Ty
       → forget (bodies Σ Θ f (drop l Θ) p (drop p image)) ≡ shown image r
 
 module _ (image sigs labels : List ℕ) where
+  -- from label 0 on these are all the bodies
   pub bodies-whole : (at : ℕ) (r : Walk) → BodiesFrom image sigs labels 0 at r → BodiesIs image sigs labels at r
   bodies-whole at r b = record { is = b .is }
 
+  -- no label is left
   pub bodies-none : (l p : ℕ) → length labels ≤ l → BodiesFrom image sigs labels l p (On p)
   unfolding shown
   bodies-none l p h = record { is = λ Σ Θ f u v b. rw (drop-past Θ l (omega (arith, v .many))) }
@@ -62,6 +64,7 @@ module _ (image sigs labels : List ℕ) where
   module _ (l p : ℕ) (below : l < length labels) (env : List (List ℕ)) (q : Walk)
       (held : (Γ : Environment) → Laid image (getD labels l 0) (parametersBytes Γ) → Holds env (getD image (getD labels l 0) 0) Γ)
       (h : RegionIs image sigs labels image env (getD image (getD labels l 0) 0) 0 p q) where
+    -- the next body's region is bad, or it goes on to the others
     pub bodies-bad : (k o : ℕ) → q ≡ Bad k o → BodiesFrom image sigs labels l p (Bad k o)
     bodies-bad k o e = record {
       is = λ Σ Θ f u v b.

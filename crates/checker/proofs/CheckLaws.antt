@@ -6,13 +6,11 @@ use native.Mathlib.Omega.{arith}
 use lib.ListN.{length, getD, take, drop}
 use lib.Seq.{drop-cons, drop-length, length-take-le, getD-take}
 use lib.Dec.{leb, eqb}
-use mir.Syntax.{w8}
-use mir.Val.{Fits}
 use borrow.Author.Tests.{le-leb, lt-leb, eq-eqb, ne-eqb, leb-true}
 use Rattle.definitions.specs.Limits.{version, largestImage, widest}
 use Rattle.definitions.specs.Terms.{Environment, Signature}
 use Rattle.definitions.specs.Typing.{All, Parameters}
-use Rattle.definitions.specs.Layout.{Bytes, counted}
+use Rattle.definitions.specs.Layout.{counted}
 use Rattle.definitions.specs.Reader.{fault, Read, got, refused, Reader, after, need, byte, end}
 use Rattle.definitions.specs.FirstFault.{signatures, labels, bodies, program, readImage, firstFault}
 use Rattle.exactness.proofs.Readers.{with′, need-then, and-true, bytes-drop}
@@ -26,12 +24,14 @@ use Rattle.checker.specs.Places.{PlacedFrom}
 use Rattle.checker.specs.Bodies.{LabelsFit, BodiesIs, HeadRead, opening}
 use Rattle.checker.proofs.Loops.{shown-bad, shown-on, forget-after}
 use Rattle.checker.proofs.Counts.{after-bad, after-on}
+use Rattle.checker.proofs.Bytes.{Octets, octets}
 use Rattle.checker.proofs.Lists.{laid-inside, at-some, at-below, parameters-at}
 use Rattle.checker.proofs.Places.{laid-counted}
 
 -- ---- the tests before the content
 
 module _ (s : List ℕ) where
+  -- what these tests answer; each return of `read_envelope` below
   abbrev pub Opens : Walk → Type 0
   Opens r = forget (opening s) ≡ shown s r
 
@@ -90,12 +90,14 @@ opening-then s =
     after-given tt at xs (λ _. program (length s))
 
 module _ (s : List ℕ) (q : Walk) (h : forget (opening s) ≡ shown s q) where
+  -- a fault of the tests before the content is the image's; where they pass, the content answers
   pub image-bad : (n o : ℕ) → q ≡ Bad n o → forget (readImage s) ≡ shown s (Bad n o)
   image-bad n o e = rw (opening-then s) (after-bad (opening s) (λ _. program (length s)) s q h n o e)
 
   pub image-on : (e : ℕ) → q ≡ On e → (r : Walk) → forget (program (length s) e (drop e s)) ≡ shown s r → forget (readImage s) ≡ shown s r
   image-on e g r t = rw (opening-then s) (after-on (opening s) (λ _. program (length s)) s q h e g r (λ _. t))
 
+  -- an image that passed them is not too large
   pub image-small : (e : ℕ) → q ≡ On e → length s ≤ 16384
   image-small e g =
       with′ (shown-on s (opening s) q e h g) λ w.
@@ -103,6 +105,7 @@ module _ (s : List ℕ) (q : Walk) (h : forget (opening s) ≡ shown s q) where
       leb-true (length s) largestImage (and-true (leb 3 (length s)) (leb (length s) largestImage) t .1)
 
 module _ (s : List ℕ) (q : Walk) (h : forget (readImage s) ≡ shown s q) where
+  -- from the reading of the image to its first fault
   pub check-on : (e : ℕ) → q ≡ On e → fault 0 e ≡ firstFault s
   unfolding firstFault
   check-on e g = with′ (shown-on s (readImage s) q e h g) λ w. rw (w .1)
@@ -141,14 +144,8 @@ labels-fit s offsets Θ p w = record {
       rw (parameters-at s (getD offsets l 0) (a .0) (w .laid l (a .0) (a .1)) .count) (all-at _ Θ l p (a .1));
 }
 
--- every element of a slice of bytes is a byte
-abbrev pub Octets : List ℕ → Type 0
-Octets s = (i : ℕ) → Fits w8 (getD s i 0)
-
-octets : (s : List ℕ) → Octets s → Bytes s
-octets s b i = omega (arith, b i)
-
 module _ (s : List ℕ) (b : Octets s) where
+  -- signatures that were read stand there as such a list
   pub signatures-listed : (at e : ℕ) (r : List ℕ) (Σ : List Signature) → signatures at (drop at s) ≡ got Σ e r → Listed signatureBytes s at Σ
   signatures-listed at e r Σ q =
       with′ (signatures-sound at (drop at s) Σ e r (bytes-drop at s (octets s b)) q) λ w.
@@ -166,6 +163,7 @@ module _ (s : List ℕ) (b : Octets s) where
 -- ---- the head, read
 
 module _ (s : List ℕ) (at : ℕ) where
+  -- what the content from `at` on answers
   abbrev pub Programs : Walk → Type 0
   Programs r = forget (program (length s) at (drop at s)) ≡ shown s r
 
@@ -182,6 +180,7 @@ module _ (s : List ℕ) (at : ℕ) where
       signed-count : (Σ : List Signature) × (signatures at (drop at s) ≡ got Σ heads (drop heads s)) × Listed signatureBytes s at Σ
       signed-count = with′ (shown-on s (signatures at (drop at s)) q heads h g) λ w. (w .0, w .1, signatures-listed s b at heads (drop heads s) (w .0) (w .1))
 
+      -- where signatures were read there is a count byte
       pub signatures-inside : at < length s
       signatures-inside = signed-count .2 .inside
 
@@ -192,6 +191,7 @@ module _ (s : List ℕ) (at : ℕ) where
             with′ signed-count λ w.
             rw (w .1) (after-bad (labels (length (w .0)) heads (drop heads s)) _ s q′ (labels-counted heads (length (w .0)) q′ (w .2 .count) h′) n o e)
 
+        -- signatures and labels were both read
         pub head-read : (start : ℕ) → q′ ≡ On start → start ≤ length s → HeadRead s at heads start
         head-read start e l =
             with′ signed-count λ w.
@@ -201,12 +201,14 @@ module _ (s : List ℕ) (at : ℕ) where
 -- ---- what follows the head
 
 module _ (s : List ℕ) (b : Octets s) (at heads start : ℕ) (h : HeadRead s at heads start) where
+  -- both lists stand in the image as they were read
   pub signed-listed : Listed signatureBytes s at (h .signed)
   signed-listed = signatures-listed s b at heads (drop heads s) (h .signed) (h .signatures-read)
 
   pub labelled-listed : Listed parametersBytes s heads (h .labelled)
   labelled-listed = labels-listed s b (length (h .signed)) heads start (drop start s) (h .labelled) (h .labels-read) .0
 
+  -- each has a count byte, and no more entries than a table of offsets
   pub signed-few : (at < length s) × (getD s at 0 ≤ 64)
   signed-few = (signed-listed .inside, omega (arith, signed-listed))
 
@@ -220,6 +222,7 @@ module _ (s : List ℕ) (b : Octets s) (at heads start : ℕ) (h : HeadRead s at
     labelled-placed : Placed parametersBytes s (take (getD s heads 0) labs) (h .labelled)
     labelled-placed = placed parametersBytes s heads (h .labelled) labelled-listed labs full′ p′
 
+    -- the filled tables say where each signature stands, and each label
     pub signed-known : Known signatureBytes s (take (getD s at 0) sigs)
     signed-known = record { list = h .signed; placed = signed-placed }
 
@@ -233,6 +236,7 @@ module _ (s : List ℕ) (b : Octets s) (at heads start : ℕ) (h : HeadRead s at
       bodies-answer : forget (bodies (h .signed) (h .labelled) (length s) (h .labelled) start (drop start s)) ≡ shown s q
       bodies-answer = i .is (h .signed) (h .labelled) (length s) signed-placed labelled-placed (omega arith)
 
+      -- a bad body, bytes left behind the last one, and none left
       pub rest-bad : (n o : ℕ) → q ≡ Bad n o → Programs s at (Bad n o)
       unfolding after
       rest-bad n o e = rw (h .signatures-read, h .labels-read) (after-bad (bodies (h .signed) (h .labelled) (length s) (h .labelled) start (drop start s)) _ s q bodies-answer n o e)

@@ -27,6 +27,7 @@ within-later at p s (On e) h w = (omega arith, w .1)
 within-later at p s (Bad n o) h w = tt
 
 module _ {A B : Type 0} (m : Read A) (f : A → Reader B) (s : List ℕ) (q : Walk) (h : forget m ≡ shown s q) where
+  -- the first reader's fault is the whole's; where it goes on, the second answers
   pub after-bad : (n o : ℕ) → q ≡ Bad n o → forget (after m f) ≡ shown s (Bad n o)
   unfolding after shown
   after-bad n o e = rw (shown-bad s m q n o h e)
@@ -38,6 +39,7 @@ module _ {A B : Type 0} (m : Read A) (f : A → Reader B) (s : List ℕ) (q : Wa
 -- ---- a count, then what follows it
 
 module _ {B : Type 0} (least most : ℕ) (f : ℕ → Reader B) (s : List ℕ) (at : ℕ) where
+  -- what a count and what follows it answer; each case below
   abbrev pub Counted : Walk → Type 0
   Counted r = forget ((count least most >>= f) at (drop at s)) ≡ shown s r
 
@@ -100,11 +102,13 @@ module _ (s : List ℕ) (S at : ℕ) where
   Enters r = forget (entryType S at (drop at s)) ≡ shown s r
 
   module _ (q : Walk) (h : forget (type S at (drop at s)) ≡ shown s q) where
+    -- a type that is refused is refused here too
     pub entry-bad : (n o : ℕ) → q ≡ Bad n o → Enters (Bad n o)
     unfolding after shown
     entry-bad n o e = rw (shown-bad s (type S at (drop at s)) q n o h e)
 
     module _ (below : at ≤ length s) (more : at ≡ length s → ⊥) (e : ℕ) (g : q ≡ On e) where
+      -- a type that was read is refused with 8 unless its kind is ext's
       pub entry-other : (getD s at 0 ≡ 2 → ⊥) → Enters (Bad 8 at)
       unfolding after need shown
       entry-other k =
@@ -143,6 +147,7 @@ module _ (s : List ℕ) (S at : ℕ) (h : at ≤ length s) (more : at ≡ length
     counted-labels : (r : Walk) → forget (labelled S (getD s at 0) (at + 1) (drop (at + 1) s)) ≡ shown s r → Labels r
     counted-labels = count-fine 1 64 (labelled S) s at h more (omega arith) fine
 
+    -- a fault of the entry is the labels'; where the entry is read, the others answer
     pub labels-bad : (n o : ℕ) → q ≡ Bad n o → Labels (Bad n o)
     labels-bad n o e = counted-labels (Bad n o) (after-bad (label (entryType S) (at + 1) (drop (at + 1) s)) _ s q w n o e)
 

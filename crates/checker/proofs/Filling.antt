@@ -27,6 +27,7 @@ module _ {A : Type 0} where
   pub record Filled (f : ℕ → A) (env : List A) (width i : ℕ) (out : List A) : Type 0 where
     pub entries : take (width + i) out ≡ take width env ++ upto f i
 
+  -- before the first turn, and after one more
   pub fill-none : (f : ℕ → A) (env : List A) (width : ℕ) → Filled f env width 0 env
   unfolding upto
   fill-none f env width = let e : width + 0 ≡ width = omega arith in record { entries = rw (e, append-nil (take width env)) }
@@ -43,6 +44,7 @@ module _ {A : Type 0} where
       let e : 0 + i ≡ i = omega arith in
       rw e at (fill-more f start 0 i out (omega arith) g)
 
+  -- a sequence that agrees with a list gives the list's front
   pub upto-take : (f : ℕ → A) (l : List A) (d : A) (n : ℕ) → n ≤ length l → ((k : ℕ) → k < n → f k ≡ getD l k d) → upto f n ≡ take n l
   unfolding upto
   upto-take f l d zero h all = refl
@@ -59,6 +61,7 @@ module _ {A : Type 0} where
 
 -- ---- entries of two numbers each
 
+-- the two numbers that stand at an offset
 abbrev pub pairAt : List ℕ → ℕ → List ℕ
 pairAt s q = getD s q 0 ∷ getD s (q + 1) 0 ∷ []
 
@@ -84,6 +87,7 @@ module _ {A : Type 0} (f : A → List ℕ) (two : Two f) where
       behind p xs x y e j = rw e
 
   module _ (s : List ℕ) (at n : ℕ) (l : List A) (laid : take (n + n) (drop at s) ≡ flatMap f l) (many : length l ≡ n) where
+    -- the pair that stands k pairs behind an offset is entry k
     pub laid-pair : (k : ℕ) → k < n → pairAt s (at + (k + k)) ≡ getD (map f l) k []
     laid-pair k h =
         let e : at + (k + k) + 1 ≡ at + (k + k + 1) = omega arith in
@@ -96,10 +100,12 @@ module _ {A : Type 0} (f : A → List ℕ) (two : Two f) where
 pub type-two : Two typeBytes
 type-two t = refl
 
+-- what the loop of `put_types` leaves
 pub put-types : (env : List (List ℕ)) (width : ℕ) (s : List ℕ) (at n i : ℕ) (out : List (List ℕ)) → Filled (λ k. pairAt s (at + (k + k))) env width i out → n ≤ i → i ≤ n
     → (Δ Γ : Environment) → Holds env width Δ → take (n + n) (drop at s) ≡ flatMap typeBytes Γ → length Γ ≡ n → Holds out (width + n) (Δ ++ Γ)
 put-types env width s at n i out g low high Δ Γ h laid m = put-pairs typeBytes type-two s at n Γ laid m env width i out g low high ∙ rw h (sym (map-append typeBytes Δ Γ))
 
+-- what the loop of `put_entries` leaves
 pub put-entries : (env : List (List ℕ)) (width : ℕ) (from : List (List ℕ)) (at n i : ℕ) (out : List (List ℕ)) → Filled (λ k. getD from (at + k) []) env width i out → n ≤ i → i ≤ n → at + n ≤ length from
     → take (width + n) out ≡ take width env ++ take n (drop at from)
 put-entries env width from at n i out g low high h =
@@ -111,6 +117,7 @@ put-entries env width from at n i out g low high h =
 pub pushed : (env : List (List ℕ)) (width : ℕ) (e : List ℕ) → width < length env → take (width + 1) (set env width e) ≡ take width env ++ (e ∷ [])
 pushed env width e h = rw (add-one width) (take-suc-set env width e h)
 
+-- and the types that the array holds are one more
 pub push-holds : (env out : List (List ℕ)) (width : ℕ) (e : List ℕ) → take (width + 1) out ≡ take width env ++ (e ∷ []) → (Δ : Environment) (t : Ty) → Holds env width Δ → typeBytes t ≡ e → Holds out (width + 1) (Δ ++ (t ∷ []))
 push-holds env out width e p Δ t h b = p ∙ rw (h, ← b) (sym (map-append typeBytes Δ (t ∷ [])))
 
@@ -151,6 +158,7 @@ abbrev pub Compared : List (List ℕ) → ℕ → List ℕ → ℕ → ℕ → B
 Compared env from s at n r = (Δ Γ : Environment) → length Δ ≡ n → length Γ ≡ n → take n (drop from env) ≡ map typeBytes Δ → take (n + n) (drop at s) ≡ flatMap typeBytes Γ → r ≡ sameTypes Δ Γ
 
 module _ (env : List (List ℕ)) (from : ℕ) (s : List ℕ) (at n : ℕ) where
+  -- true where every entry agrees, false where one of its bytes does not
   pub same-all : ((k : ℕ) → k < n → SameAt env from s at k) → Compared env from s at n true
   same-all all Δ Γ dn gn held laid = all-same Δ Γ (omega arith) λ k h.
       let l : k < n = omega arith in

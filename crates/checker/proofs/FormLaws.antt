@@ -1,14 +1,14 @@
 -- The tests of each form, in each case. Assumes nothing.
 use Prim.Native.Nat.{ℕ, suc, _+_, _-_, _≤_, _<_}
 use mathlib.Core.Path.{_≡_, refl, sym, _∙_}
-use mathlib.Core.List.{List, [], _∷_, _++_, map, flatMap}
+use mathlib.Core.List.{List, [], _∷_, _++_, flatMap}
 use mathlib.Core.Bool.{Bool, true, false}
 use native.Mathlib.Omega.{arith}
-use lib.ListN.{length, getD, take, drop, length-append}
+use lib.ListN.{length, getD, drop, length-append}
 use borrow.Author.Tests.{eq-eqb, ne-eqb, le-leb, lt-leb}
 use Rattle.definitions.specs.Limits.{widest}
 use Rattle.definitions.specs.Terms.{Ty, prd, Environment, Signature, let′}
-use Rattle.definitions.specs.Layout.{typeBytes, counted}
+use Rattle.definitions.specs.Layout.{counted}
 use Rattle.definitions.specs.Ends.{front, back}
 use Rattle.definitions.specs.Typing.{At}
 use Rattle.definitions.specs.Reader.{fault, got, refused, after, need, the, known, expected}
@@ -23,6 +23,7 @@ use Rattle.checker.specs.Shown.{forget, shown}
 use Rattle.checker.specs.Laid.{Laid, Holds, Placed, Known, parametersBytes, signatureBytes, ParametersAt, SignatureAt}
 use Rattle.checker.proofs.Bytes.{byte-end, byte-at}
 use Rattle.checker.proofs.Loops.{forget-after}
+use Rattle.checker.proofs.Filling.{Compared}
 use Rattle.checker.proofs.Lists.{laid-byte, laid-inside, holds-front, Parameters, parameters-at, holds-length, holds-back, back-length, sameTypes-lengths, at-some, at-none}
 use Rattle.exactness.proofs.Readers.{with′}
 
@@ -54,6 +55,7 @@ count-inside s list p =
     omega arith
 
 module _ (s : List ℕ) (env : List (List ℕ)) (width : ℕ) (list : ℕ) where
+  -- what `equals` and `ends_with` promise of their answers
   abbrev pub Equals : Bool → Type 0
   Equals r = (Δ Γ : Environment) → Holds env width Δ → Laid s list (parametersBytes Γ) → r ≡ sameTypes Δ Γ
 
@@ -61,17 +63,14 @@ module _ (s : List ℕ) (env : List (List ℕ)) (width : ℕ) (list : ℕ) where
   EndsWith r = (Δ Γ : Environment) → Holds env width Δ → Laid s list (parametersBytes Γ) → r ≡ sameTypes (back Δ (length Γ)) Γ
 
 module _ (s : List ℕ) (env : List (List ℕ)) (full : length env ≡ 32) (width : ℕ) (narrow : width ≤ 32) (list : ℕ) where
+  -- lists of different lengths are not the same; of equal lengths, the comparison of as many types decides
   pub equals-not : (getD s list 0 ≡ width → ⊥) → Equals s env width list false
   equals-not n Δ Γ h l =
       let q : Parameters s list Γ = parameters-at s list Γ l in
       let e : length Δ ≡ width = holds-length env full width narrow Δ h in
       sym (sameTypes-lengths Δ Γ (λ m. n (q .count ∙ sym m ∙ e)))
 
-  -- what the comparison of as many types says
-  abbrev pub Compares : ℕ → ℕ → Bool → Type 0
-  Compares from n r = (Δ Γ : Environment) → length Δ ≡ n → length Γ ≡ n → take n (drop from env) ≡ map typeBytes Δ → take (n + n) (drop (list + 1) s) ≡ flatMap typeBytes Γ → r ≡ sameTypes Δ Γ
-
-  pub equals-same : getD s list 0 ≡ width → (r : Bool) → Compares 0 (getD s list 0) r → Equals s env width list r
+  pub equals-same : getD s list 0 ≡ width → (r : Bool) → Compared env 0 s (list + 1) (getD s list 0) r → Equals s env width list r
   equals-same e r f Δ Γ h l =
       let q : Parameters s list Γ = parameters-at s list Γ l in
       f Δ Γ (holds-length env full width narrow Δ h ∙ sym e) (sym (q .count)) (rw e h) (rw (q .count) (q .types))
@@ -83,7 +82,7 @@ module _ (s : List ℕ) (env : List (List ℕ)) (full : length env ≡ 32) (widt
       let z : length Δ - length Γ ≡ 0 = omega arith in
       sym (rw z (sameTypes-lengths Δ Γ (λ m. omega arith)))
 
-  pub ends-same : getD s list 0 ≤ width → (r : Bool) → Compares (width - getD s list 0) (getD s list 0) r → EndsWith s env width list r
+  pub ends-same : getD s list 0 ≤ width → (r : Bool) → Compared env (width - getD s list 0) s (list + 1) (getD s list 0) r → EndsWith s env width list r
   ends-same n r f Δ Γ h l =
       let q : Parameters s list Γ = parameters-at s list Γ l in
       let g : length Γ ≤ width = omega arith in
@@ -92,6 +91,7 @@ module _ (s : List ℕ) (env : List (List ℕ)) (full : length env ≡ 32) (widt
 -- ---- names
 
 module _ (s : List ℕ) (many at : ℕ) (q : Name) (h : NameIs s many at q) where
+  -- a name is the byte that stands there, below the bound
   pub name-is : (i : ℕ) → q ≡ Is i → (at < length s) × (i ≡ getD s at 0) × (i < many)
   name-is i e = go (rw e at h)
     where
@@ -99,6 +99,7 @@ module _ (s : List ℕ) (many at : ℕ) (q : Name) (h : NameIs s many at q) wher
       go (isNamed l g b) = (l, g, b)
 
   module _ {A : Type 0} (l : List A) (n : many ≡ length l) where
+    -- in a list of as many entries the name's reader gives the entry, or refuses as the name does
     pub known-is : (i : ℕ) → q ≡ Is i → (a : A) × At l i a × (known l at (drop at s) ≡ got (i, a) (at + 1) (drop (at + 1) s))
     unfolding after the
     known-is i e =
@@ -129,6 +130,7 @@ signature-at k i h = with′ (placed-at k i h) λ w. record { signature = w .0; 
 -- ---- jump
 
 module _ (image labels s : List ℕ) (env : List (List ℕ)) (width at : ℕ) (q : Name) (h : NameIs s (length labels) (at + 1) q) where
+  -- the label is unknown, or its types are the environment, or not
   pub jump-bad : (n o : ℕ) → q ≡ Not n o → JumpIs image labels s env width at (Bad n o)
   unfolding after shown
   jump-bad n o e = record { is = λ Σ Θ inner d Δ p k. rw (known-not s (length labels) (at + 1) q h Θ (p .many) n o e) }
@@ -152,6 +154,7 @@ module _ (image labels s : List ℕ) (env : List (List ℕ)) (width at : ℕ) (q
 
 -- ---- signatures
 
+-- a signature starts with its symbol count
 pub signature-count : (image : List ℕ) (sig : ℕ) (S : Signature) → Laid image sig (signatureBytes S) → getD image sig 0 ≡ length S
 unfolding counted
 signature-count image sig S l = laid-byte image sig (length S) (flatMap parametersBytes S) l
@@ -164,6 +167,7 @@ signature-inside image sig p = omega (arith, laid-inside image sig (length (p .s
 abbrev pub Symbol : List ℕ → ℕ → ℕ → ℕ → Type 0
 Symbol image sig m list = (S : Signature) (Γ : Environment) → Laid image sig (signatureBytes S) → At S m Γ → Laid image list (parametersBytes Γ)
 
+-- for a known symbol that is where a list of parameters stands
 pub symbol-list : (image : List ℕ) (sig m list : ℕ) → SignatureAt image sig → m < getD image sig 0 → Symbol image sig m list → ParametersAt image list
 symbol-list image sig m list p h f =
     with′ (at-some (p .signature) m (rw (signature-count image sig (p .signature) (p .laid)) at h)) λ a.
@@ -180,6 +184,7 @@ at-signature image sigs s at q h t e Σ p =
 -- ---- let
 
 module _ (image sigs s : List ℕ) (env : List (List ℕ)) (full : length env ≡ 32) (width : ℕ) (narrow : width ≤ 32) (at : ℕ) (q : Name) (h : NameIs s (length sigs) (at + 1) q) where
+  -- the tests in their order: signature, symbol, last entries, width; then on to the remainder
   pub let-signature : (n o : ℕ) → q ≡ Not n o → LetIs image sigs s env width at (Fails n o)
   unfolding after
   let-signature n o e = letFails {n = n} {o = o} (λ Σ Θ inner d Δ p k. rw (known-not s (length sigs) (at + 1) q h Σ (p .many) n o e))
@@ -236,6 +241,7 @@ module _ (image sigs s : List ℕ) (env : List (List ℕ)) (full : length env �
 pub false-true : _≡_ {A = Bool} false true → ⊥
 false-true q = let z : _≡_ {A = ℕ} 0 1 = cc in omega arith
 
+-- offsets of lists and signatures are inside the image
 pub list-inside : (image : List ℕ) (list : ℕ) → ParametersAt image list → list < length image
 list-inside image list p = omega (arith, count-inside image list p)
 

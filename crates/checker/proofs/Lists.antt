@@ -18,6 +18,7 @@ use Rattle.checker.specs.Laid.{Laid, Holds, parametersBytes}
 -- ---- bytes at an offset
 
 module _ (s : List ℕ) where
+  -- of two parts that stand somewhere, where each of them stands
   pub laid-append : (at : ℕ) (xs ys : List ℕ) → Laid s at (xs ++ ys) → Laid s (at + length xs) ys
   laid-append at xs ys l = record { rest = l .rest; bytes = rw (← (drop-drop (length xs) at s), l .bytes, append-assoc xs ys (l .rest), drop-append-seam xs (ys ++ l .rest)) }
 
@@ -41,6 +42,7 @@ module _ (s : List ℕ) where
 
 -- ---- lists of types
 
+-- a type has two bytes
 pub types-length : (Γ : Environment) → length (flatMap typeBytes Γ) ≡ length Γ + length Γ
 unfolding flatMap
 types-length [] = refl
@@ -67,6 +69,7 @@ parameters-at s list Γ l =
 
 -- ---- entries of a list
 
+-- a number below the length names an entry, and no other does
 pub at-some : {A : Type 0} (l : List A) (i : ℕ) → i < length l → (a : A) × At l i a
 at-some [] i h = absurd (omega arith)
 at-some (x ∷ l) zero h = (x, refl)
@@ -98,6 +101,7 @@ part-at l part at n d e j h = sym (getD-drop at l j d) ∙ sym (getD-take n (dro
 
 -- ---- arrays that hold a list
 
+-- parts of a list that is mapped, or cut twice
 pub map-take : {A B : Type 0} (f : A → B) (n : ℕ) (l : List A) → take n (map f l) ≡ map f (take n l)
 map-take f zero l = refl
 map-take f (suc n) [] = refl
@@ -138,6 +142,7 @@ module _ {A : Type 0} (f : A → List ℕ) (env : List (List ℕ)) (width : ℕ)
       (a, (e, rw (held-at i h, e)))
 
   module _ (many : length l ≡ width) (n : ℕ) (h : n ≤ width) where
+    -- the array's entries but the last n are the list's, and so are the last n
     pub held-front : take (width - n) env ≡ map f (front l n)
     held-front =
         let e : length l - n ≡ width - n = ap (λ k. k - n) many in
@@ -153,6 +158,7 @@ pub length-back : {A : Type 0} (l : List A) (n : ℕ) → n ≤ length l → len
 length-back l n h = length-drop (length l - n) l ∙ omega arith
 
 module _ (env : List (List ℕ)) (full : length env ≡ 32) (width : ℕ) (narrow : width ≤ 32) (Δ : Environment) (h : Holds env width Δ) where
+  -- the same for the types of an environment, in an array of 32
   pub holds-length : length Δ ≡ width
   holds-length = held-length typeBytes env width Δ h (omega arith)
 

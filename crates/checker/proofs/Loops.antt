@@ -11,6 +11,7 @@ use Rattle.checker.specs.Shown.{forget, shown, Within}
 
 -- ---- a reader's answer, from a walk's
 
+-- where the walk stopped, the reader refused
 pub shown-bad : {A : Type 0} (s : List ℕ) (m : Read A) (q : Walk) (n o : ℕ) → forget m ≡ shown s q → q ≡ Bad n o → m ≡ refused (fault n o)
 unfolding shown
 shown-bad s m q n o h e = go m (rw e at h)
@@ -19,6 +20,7 @@ shown-bad s m q n o h e = go m (rw e at h)
     go (got a at xs) h = let z : _≡_ {A = ℕ} 0 1 = cc in absurd (omega arith)
     go (refused x) h = cc
 
+-- where the walk goes on, the reader gave something
 pub shown-on : {A : Type 0} (s : List ℕ) (m : Read A) (q : Walk) (e : ℕ) → forget m ≡ shown s q → q ≡ On e → (a : A) × (m ≡ got a e (drop e s))
 unfolding shown
 shown-on s m q e h g = go m (rw g at h)
@@ -40,6 +42,7 @@ module _ {A : Type 0} (m : Reader A) (s : List ℕ) where
   abbrev pub Times : ℕ → ℕ → Walk → Type 0
   Times n p r = forget (times n m p (drop p s)) ≡ shown s r
 
+  -- no reading is left; below, the next one fails, or goes on to the others
   pub times-none : (n p : ℕ) → n ≡ 0 → Times n p (On p)
   unfolding shown
   times-none n p e = rw e

@@ -27,14 +27,17 @@ pub record Through {A : Type 0} (f : A → List ℕ) (s : List ℕ) (p n r : ℕ
   pub through : (l : List A) → length l ≡ n → Laid s p (flatMap f l) → r ≡ p + length (flatMap f l)
 
 module _ {A : Type 0} (f : A → List ℕ) (s : List ℕ) where
+  -- past the end nothing stands, so any offset is behind it
   pub behind-none : (at r : ℕ) → length s ≤ at → Behind (counted f) s at r
   unfolding counted
   behind-none at r h = record { behind = λ l w. absurd (omega (arith, laid-inside s at (length l) (flatMap f l) w)) }
 
+  -- a list ends behind as many entries as its count says
   pub through-counted : (at r : ℕ) → Through f s (at + 1) (getD s at 0) r → Behind (counted f) s at r
   unfolding counted
   through-counted at r t = record { behind = λ l w. let (e, next) = laid-counted f s at l w in t .through l (sym e) next ∙ omega arith }
 
+  -- no entry is left; below, one is passed
   pub through-none : (p n : ℕ) → n ≡ 0 → Through f s p n p
   unfolding flatMap
   through-none p n e = record { through = go }
@@ -57,6 +60,7 @@ module _ {A : Type 0} (f : A → List ℕ) (s : List ℕ) where
 -- ---- parameters
 
 module _ (s : List ℕ) (at : ℕ) where
+  -- where bytes are missing no list stands, and otherwise its count gives its size
   pub parameters-past : (r : ℕ) → length s - at < 1 + 2 * getD s at 0 → Behind parametersBytes s at r
   unfolding counted
   parameters-past r h = record { behind = λ Γ w. absurd (omega (arith, laid-byte s at (length Γ) (flatMap typeBytes Γ) w, laid-inside s at (length Γ) (flatMap typeBytes Γ) w, types-length Γ)) }
@@ -79,6 +83,7 @@ entry (a ∷ l) zero h = (a, refl, refl)
 entry (a ∷ l) (suc i) h = entry l i (omega arith)
 
 module _ {A : Type 0} (f : A → List ℕ) (s : List ℕ) (at count : ℕ) where
+  -- before the first entry, and after the last
   pub placing-none : (table : List ℕ) → Placing f s at count at 0 table
   placing-none table = record { rest = λ l h w. w; done = λ l h w k b a e. absurd (omega arith) }
 
@@ -97,6 +102,7 @@ module _ {A : Type 0} (f : A → List ℕ) (s : List ℕ) (at count : ℕ) where
         let g : q ≡ p + length (f c) = b .behind c front in
         (rw (← z) front, rw (g, add-one i) (laid-append s p (f c) (flatMap f (drop (suc i) l)) j))
 
+    -- one entry is placed
     pub placing-more : Placing f s at count q (i + 1) (set table i p)
     placing-more = record { rest = λ l h w. let (a, v, d) = entry l i (omega arith) in here l h w a v .1; done = done-more }
       where

@@ -43,12 +43,14 @@ module _ {A : Type 0} (l : List A) (s : List ℕ) (at : ℕ) where
 bad-on : {n o e : ℕ} → Bad n o ≡ On e → ⊥
 bad-on g = let z : _≡_ {A = ℕ} 0 1 = cc in omega arith
 
+-- a fault says nothing of where positions end
 pub positions-bad : (s : List ℕ) (width at count n o : ℕ) → ((Δ : Environment) → length Δ ≡ width → forget (times count (known Δ) at (drop at s)) ≡ shown s (Bad n o)) → Positions s width at count (Bad n o)
 positions-bad s width at count n o h = record { reads = h; ended = λ e g. absurd (bad-on g); below = λ e g. absurd (bad-on g) }
 
 pub positions-on : (s : List ℕ) (width at count p : ℕ) → p ≡ at + count → Below s at count width → ((Δ : Environment) → length Δ ≡ width → forget (times count (known Δ) at (drop at s)) ≡ shown s (On p)) → Positions s width at count (On p)
 positions-on s width at count p q b h = record { reads = h; ended = λ e g. let z : p ≡ e = cc in omega arith; below = λ e g. b }
 
+-- one position more that is below the bound
 pub below-next : (s : List ℕ) (at i p bound j : ℕ) → p ≡ at + i → Below s at i bound → getD s p 0 < bound → j ≡ i + 1 → Below s at j bound
 below-next s at i p bound j q b h e k l = below-more (λ (k : ℕ). getD s (at + k) 0 < bound) i b (rw q at h) k (omega arith)
 

@@ -16,6 +16,7 @@ pub record Ahead (s : List ℕ) (p left : ℕ) (Γ : Environment) : Type 0 where
   pub symbol : At symbols left Γ
   pub laid : Laid s p (flatMap parametersBytes symbols)
 
+-- behind its count a signature has all its symbols ahead
 pub symbols-start : (s : List ℕ) (at : ℕ) (S : Signature) (m : ℕ) (Γ : Environment) → Laid s at (signatureBytes S) → At S m Γ → Ahead s (at + 1) m Γ
 unfolding counted
 symbols-start s at S m Γ l h = record { symbols = S; symbol = h; laid = laid-append s at (length S ∷ []) (flatMap parametersBytes S) l }
@@ -37,12 +38,15 @@ module _ (s : List ℕ) (p left : ℕ) (some′ : left ≡ 0 → ⊥) (Γ : Envi
   step : (p < length s) × Ahead s (p + (1 + (getD s p 0 + getD s p 0))) (left - 1) Γ
   step = symbol-step s p left Γ some′ (a .symbols) (a .symbol) (a .laid)
 
+  -- a list is passed by its count
   pub symbol-pass : q ≡ p + (1 + (getD s p 0 + getD s p 0)) → Ahead s q (left - 1) Γ
   symbol-pass e = rw e (step .1)
 
+  -- past the image's end no symbol is ahead
   pub symbol-out : length s ≤ p → Ahead s q (left - 1) Γ
   symbol-out h = absurd (omega (arith, step .0))
 
+-- where it is the next one, its parameters stand here
 pub symbol-here : (s : List ℕ) (p left : ℕ) (Γ : Environment) → left ≡ 0 → Ahead s p left Γ → Laid s p (parametersBytes Γ)
 unfolding flatMap
 symbol-here s p left Γ e a = go (a .symbols) (rw e at (a .symbol)) (a .laid)

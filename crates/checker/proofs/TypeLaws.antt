@@ -17,6 +17,7 @@ use Rattle.checker.proofs.Bytes.{byte-end, byte-at}
 
 -- ---- a type of kind ext
 
+-- the kind alone says whether a type is ext
 pub ext-other : (t : Ty) → (kindByte t ≡ 2 → ⊥) → sameType t ext ≡ false
 ext-other (prd n) h = refl
 ext-other (cns n) h = refl
@@ -33,6 +34,7 @@ module _ (s : List ℕ) (S at : ℕ) (h : at ≤ length s) where
   abbrev Reads : Walk → Type 0
   Reads r = forget (type S at (drop at s)) ≡ shown s r
 
+  -- the returns in the order of the tests: the kind, then the number by its kind
   pub type-none : at ≡ length s → Reads (Bad 3 at)
   unfolding after shown
   type-none e = rw (byte-end s at e)

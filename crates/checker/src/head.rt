@@ -4,8 +4,8 @@ use crate::types::Type;
 ghost use mathlib.Core.Path.{_≡_};
 ghost use Prim.Native.Nat.{_≤_};
 ghost use lib.ListN.{length, drop};
-ghost use Rattle.definitions.specs.Reader.{times};
-ghost use Rattle.definitions.specs.FirstFault.{type, entryType, symbol, signature, signatures, label, labels};
+ghost use Rattle.definitions.specs.Reader.{times, count, counted};
+ghost use Rattle.definitions.specs.FirstFault.{type, entryType, signature, signatures, label, labels};
 ghost use Rattle.checker.specs.Shown.{forget, shown, Within};
 ghost use Rattle.checker.specs.Laid.{parametersBytes, signatureBytes};
 ghost use Rattle.checker.specs.Places.{Behind, PlacedFrom};
@@ -62,32 +62,32 @@ pub(crate) fn read_types(s: &[u8], sigs: usize, at: usize, count: usize) -> Walk
     Walk::On(p)
 }
 
-// The symbol at `at`: a parameter count, then its types.
-pub(crate) fn read_symbol(s: &[u8], sigs: usize, at: usize) -> Walk
+// The list of types at `at`, a symbol's or a label's: a parameter count of at most `most`, then as many types.
+pub(crate) fn read_list(s: &[u8], sigs: usize, most: usize, at: usize) -> Walk
     requires { ⌜ at ≤ length (now s) ⌝ }
     ensures within { λ r. ⌜ Within at (now (s .entry)) r ⌝ }
-    ensures { λ r. ⌜ forget (symbol sigs at (drop at (now (s .entry)))) ≡ shown (now (s .entry)) r ⌝ }
+    ensures { λ r. ⌜ forget (counted (count 0 most) (type sigs) at (drop at (now (s .entry)))) ≡ shown (now (s .entry)) r ⌝ }
 {
     if at == s.len() {
         return Walk::Bad(3, at);
     }
-    let count = s[at] as usize;
-    if 16 < count {
+    let many = s[at] as usize;
+    if most < many {
         return Walk::Bad(4, at);
     }
-    read_types(s, sigs, at + 1, count)
+    read_types(s, sigs, at + 1, many)
 }
 
-// `count` symbols from `at` on.
-pub(crate) fn read_symbols(s: &[u8], sigs: usize, at: usize, count: usize) -> Walk
+// `many` lists of types from `at` on, each of at most `most`.
+pub(crate) fn read_lists(s: &[u8], sigs: usize, most: usize, at: usize, many: usize) -> Walk
     requires { ⌜ at ≤ length (now s) ⌝ }
     ensures within { λ r. ⌜ Within at (now (s .entry)) r ⌝ }
-    ensures { λ r. ⌜ forget (times count (symbol sigs) at (drop at (now (s .entry)))) ≡ shown (now (s .entry)) r ⌝ }
+    ensures { λ r. ⌜ forget (times many (counted (count 0 most) (type sigs)) at (drop at (now (s .entry)))) ≡ shown (now (s .entry)) r ⌝ }
 {
     let mut p = at;
-    let mut left = count;
+    let mut left = many;
     while left != 0 {
-        match read_symbol(s, sigs, p) {
+        match read_list(s, sigs, most, p) {
             Walk::On(next) => {
                 p = next;
             }
@@ -113,7 +113,7 @@ pub(crate) fn read_signature(s: &[u8], sigs: usize, at: usize) -> Walk
     if 32 < count {
         return Walk::Bad(4, at);
     }
-    read_symbols(s, sigs, at + 1, count)
+    read_lists(s, sigs, 16, at + 1, count)
 }
 
 // `count` signatures from `at` on.
@@ -197,22 +197,6 @@ pub(crate) fn read_entry_types(s: &[u8], sigs: usize, at: usize, count: usize) -
     Walk::On(p)
 }
 
-// The label at `at`: a parameter count, then its types.
-pub(crate) fn read_label(s: &[u8], sigs: usize, at: usize) -> Walk
-    requires { ⌜ at ≤ length (now s) ⌝ }
-    ensures within { λ r. ⌜ Within at (now (s .entry)) r ⌝ }
-    ensures { λ r. ⌜ forget (label (type sigs) at (drop at (now (s .entry)))) ≡ shown (now (s .entry)) r ⌝ }
-{
-    if at == s.len() {
-        return Walk::Bad(3, at);
-    }
-    let count = s[at] as usize;
-    if 32 < count {
-        return Walk::Bad(4, at);
-    }
-    read_types(s, sigs, at + 1, count)
-}
-
 // The entry, label 0, at `at`: a parameter count, then its types.
 pub(crate) fn read_entry_label(s: &[u8], sigs: usize, at: usize) -> Walk
     requires { ⌜ at ≤ length (now s) ⌝ }
@@ -227,28 +211,6 @@ pub(crate) fn read_entry_label(s: &[u8], sigs: usize, at: usize) -> Walk
         return Walk::Bad(4, at);
     }
     read_entry_types(s, sigs, at + 1, count)
-}
-
-// `count` labels from `at` on, none of them the entry.
-pub(crate) fn read_label_list(s: &[u8], sigs: usize, at: usize, count: usize) -> Walk
-    requires { ⌜ at ≤ length (now s) ⌝ }
-    ensures within { λ r. ⌜ Within at (now (s .entry)) r ⌝ }
-    ensures { λ r. ⌜ forget (times count (label (type sigs)) at (drop at (now (s .entry)))) ≡ shown (now (s .entry)) r ⌝ }
-{
-    let mut p = at;
-    let mut left = count;
-    while left != 0 {
-        match read_label(s, sigs, p) {
-            Walk::On(next) => {
-                p = next;
-            }
-            Walk::Bad(n, o) => {
-                return Walk::Bad(n, o);
-            }
-        }
-        left -= 1;
-    }
-    Walk::On(p)
 }
 
 // The labels, from their count at `at` on.
@@ -268,7 +230,7 @@ pub(crate) fn read_labels(s: &[u8], sigs: usize, at: usize) -> Walk
         return Walk::Bad(4, at);
     }
     match read_entry_label(s, sigs, at + 1) {
-        Walk::On(next) => read_label_list(s, sigs, next, count - 1),
+        Walk::On(next) => read_lists(s, sigs, 32, next, count - 1),
         Walk::Bad(n, o) => Walk::Bad(n, o),
     }
 }

@@ -93,9 +93,11 @@ short n k h large = go (leb k 20) refl
 
 -- ---- one number more
 
+-- whatever it holds, a text has 128 bytes
 pub all-bytes : {t : Text} {xs : List ℕ} → Holds t xs → length (t .bytes) ≡ 128
 all-bytes {t} {xs} h = rw (h .bytes-are, length-append xs (replicate (128 - length xs) 0), length-replicate {A = ℕ} (128 - length xs) 0) (omega (arith, h .fits))
 
+-- a text with 21 bytes of room has room for a number and the byte behind it
 pub with-number : (t : Text) (xs : List ℕ) → Holds t xs → length xs + 21 ≤ 128 → (n b k : ℕ) (figures : List ℕ) → k ≤ length figures → k ≤ 20 → take k figures ≡ digits (suc n) n
     → Holds (record { bytes = set (paste (t .bytes) (t .length) figures k) (t .length + k) b; length = t .length + k + 1 }) (xs ++ (digits (suc n) n ++ (b ∷ [])))
 with-number t xs h f n b k figures c s e =
@@ -111,6 +113,7 @@ module _ {n k : ℕ} (fewest : Io.Fewest 10 1 n k) (fits : n < 2 ^ 64) where
   pub few : k ≤ 20
   few = short n k fits (fewest .2)
 
+  -- the figures written are the number's digits
   pub figures-are : (figures : List ℕ) → take k figures ≡ Io.digits 10 k n → take k figures ≡ digits (suc n) n
   figures-are figures e =
       let z : k ≡ suc (k - 1) = omega (arith, fewest .0) in
@@ -125,6 +128,7 @@ pub copied : (start figures : List ℕ) (at : ℕ) {bytes : List ℕ} {i k : ℕ
     → length start ≡ 128 → set bytes (at + i) (getD figures i 0) ≡ paste start at figures (i + 1)
 copied start figures at {bytes} {i} {k} h s c l e full = rw (e full, add-one i) (paste-suc start at figures i 0 (omega arith) (omega arith))
 
+-- what the loop that copies the figures leaves
 pub numbered : (t : Text) (figures : List ℕ) (b : ℕ) {bytes : List ℕ} {n k i : ℕ} (xs : List ℕ) → Holds t xs → length xs + 21 ≤ 128 → Io.Fewest 10 1 n k → n < 2 ^ 64 → k ≤ length figures → take k figures ≡ Io.digits 10 k n → i ≤ k → k ≤ i → (length (t .bytes) ≡ 128 → bytes ≡ paste (t .bytes) (t .length) figures i)
     → Holds (record { bytes = set bytes (t .length + k) b; length = t .length + k + 1 }) (xs ++ (digits (suc n) n ++ (b ∷ [])))
 numbered t figures b {bytes} {n} {k} {i} xs h f fewest fits c e low high w =
@@ -138,6 +142,7 @@ pub record Grown (t : Text) (most : ℕ) (xs : List ℕ) : Type 0 where
   pub holds : Holds t xs
   pub few : t .length ≤ most
 
+-- the text without bytes, and one number more
 pub begun : {t : Text} → Holds t [] → Grown t 0 []
 begun h = record { holds = h; few = omega (arith, h .length-is) }
 

@@ -4,7 +4,6 @@ pub mod Inverse
 pub mod ClauseLaws
 pub mod Heads
 pub mod Starts
-pub mod Kept
 pub mod Ready
 pub mod ArgumentLaws
 pub mod ExternLaws

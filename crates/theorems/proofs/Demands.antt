@@ -5,35 +5,41 @@ use mathlib.Core.Logic.{_↔_, _≢_}
 use mathlib.Core.List.{List, [], map}
 use lib.ListN.{length, getD}
 use Rattle.definitions.specs.Limits.{largestTable}
-use Rattle.definitions.specs.Terms.{Program}
-use Rattle.definitions.specs.Typing.{TypedProgram}
+use Rattle.definitions.specs.Terms.{prd, Program}
+use Rattle.definitions.specs.Typing.{At, TypedProgram}
 use Rattle.definitions.specs.Layout.{Bytes, layout, Accepted}
 use Rattle.definitions.specs.Reader.{fault}
 use Rattle.definitions.specs.FirstFault.{firstFault}
 use Rattle.definitions.specs.Run.{stuck, Outcome, Reached, Ends}
 use Rattle.definitions.specs.Machine as Machine
 use Rattle.definitions.specs.Machine.{runTerms}
+use Rattle.definitions.specs.RawMachine as RawMachine
 use Rattle.definitions.specs.RawMachine.{Configuration, step}
-use Rattle.definitions.specs.Answer.{start, runTrees, answer, answerOf, refusal}
+use Rattle.definitions.specs.Answer.{start, runTrees, answer, answerOf, refusal, AnswerNumber}
+use Rattle.definitions.specs.Words.{AllKept}
+use Rattle.definitions.specs.Together.{Same, Together}
 use Rattle.definitions.proofs.Rows as Table
 use Rattle.exactness.proofs.Exact as Exact
 use Rattle.exactness.proofs.Faults as Faults
-use Rattle.lockstep.proofs.Together.{Together}
+use Rattle.lockstep.proofs.Environments as Environments
 use Rattle.lockstep.proofs.Whole as Whole
 use Rattle.lockstep.proofs.Answers as Answers
-use Rattle.lockstep.proofs.Answers.{AnswerNumber}
 
 -- Document 01, "Marked P: proved from the definitions, as a single table under one claim."
 rows : map Table.computed Table.rows ≡ Table.rows
 rows = Table.rows-hold
+
+-- "The others": widths, depths, fuel, tables, each operation, each kind of word, and what students hand in.
+further-rows : map Table.computed Table.further ≡ Table.further
+further-rows = Table.further-hold
 
 -- Demand 2: an image is accepted exactly when its first fault is 0 at its length,
 demand-2-accepted : (image : List ℕ) → Bytes image → Accepted image ↔ (firstFault image ≡ fault 0 (length image))
 demand-2-accepted image b = (Exact.accepted-faultless, λ e. Exact.faultless-accepted image b (rw e))
 
 -- and exactly when its number is 0; else the number is one of the refusal table's.
-demand-2-number : (image : List ℕ) → Bytes image → firstFault image .number ≡ 0 → Accepted image
-demand-2-number = Exact.faultless-accepted
+demand-2-number : (image : List ℕ) → Bytes image → Accepted image ↔ (firstFault image .number ≡ 0)
+demand-2-number image b = (λ a. rw (Exact.accepted-faultless a), Exact.faultless-accepted image b)
 
 demand-1-number : (image : List ℕ) → Bytes image → (Accepted image → ⊥) → (1 ≤ firstFault image .number) × (firstFault image .number ≤ 11)
 demand-1-number = Exact.number-refused
@@ -58,9 +64,13 @@ Fitting a args = length args ≡ length (getD (a .program .labels) 0 [])
 demand-1-arguments : {image : List ℕ} (a : Accepted image) (args : List ℕ) (fuel : ℕ) (table : List ℕ) → (Fitting a args → ⊥) → answer image args fuel table ≡ refusal 20 table
 demand-1-arguments a args fuel table l = Answers.arguments-refused a args fuel table (Whole.not-fitting a args l)
 
--- Demand 3: so an answer's number is a refusal's, 40, 41 or 42, whatever the input.
+-- Demands 1 and 3: whatever the input, an answer's number is a refusal's, 40, 41 or 42.
 demand-3-number : (image args : List ℕ) (fuel : ℕ) (table : List ℕ) → Bytes image → AnswerNumber (answer image args fuel table .number)
 demand-3-number = Answers.answer-number
+
+-- Document 01, "A signature without symbols is lawful: .. no value of it can be built": no value, reached or not, is a producer of it.
+no-value-without-symbols : {image : List ℕ} (a : Accepted image) (t : ℕ) → At (a .program .signatures) t [] → (v : RawMachine.Value) (w : Machine.Value) → Same image (a .program .signatures) (a .program .labels) v w (prd t) → ⊥
+no-value-without-symbols {image} a t e v w = Environments.no-producer image (a .program .signatures) (a .program .labels) e
 
 -- how many words a configuration has stored
 abbrev words : Configuration → ℕ
@@ -88,6 +98,10 @@ module _ {image : List ℕ} (a : Accepted image) (args : List ℕ) (l : Fitting 
   demand-2-reached : (size n : ℕ) (c : Configuration) → Reached (step image) words size (start image args) n c
       → (k : Machine.Configuration) × Reached (Machine.step (a .program)) (λ k. k .words) size (Machine.start (a .program) args) n k × Together image (a .program .signatures) (a .program .labels) c k
   demand-2-reached = Whole.reached a args (Whole.fitting a args l)
+
+  -- Demand 2, "the words that the layout makes of its steps": the words stored so far hold the tree of every value of the environment, block by block, each at the position that a value's own words name.
+  demand-2-words : (size n : ℕ) (c : Configuration) → Reached (step image) words size (start image args) n c → AllKept (c .stored) (c .environment)
+  demand-2-words = Whole.stored a args (Whole.fitting a args l)
 
   -- Demand 3: every configuration that the machine reaches has a next step.
   demand-3-next : (size n : ℕ) (c : Configuration) → Reached (step image) words size (start image args) n c → step image c ≢ stuck

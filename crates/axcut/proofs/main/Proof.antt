@@ -1,3 +1,4 @@
+-- main: what was read fits the buffer, and a text is at most as long as its 128 bytes, so both slices are inside; it promises nothing more. Assumes nothing.
 use native.Mathlib.Omega.{arith}
 use mathlib.Core.Path.{sym}
 use lib.Seq.{length-take-le}

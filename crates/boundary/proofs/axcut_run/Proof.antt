@@ -1,3 +1,4 @@
+-- axcut_run: it hands on what `run` returns, field by field, so the promise of `run`, turned round, is its own. Assumes nothing.
 use mathlib.Core.Path.{sym}
 use borrow.Author.Needs.{needs}
 use Rattle.boundary.proofs.axcut_run.Statement.{statement}

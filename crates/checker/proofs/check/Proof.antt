@@ -1,3 +1,4 @@
+-- check: where `read_image` goes on to an end the reading succeeded, which is number 0 there, and where it stops its number and offset are the first fault's. Assumes nothing.
 use Rattle.checker.proofs.CheckLaws as law
 use borrow.Author.Needs.{needs}
 use Rattle.checker.proofs.check.Statement.{statement}

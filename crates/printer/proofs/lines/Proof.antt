@@ -1,3 +1,4 @@
+-- lines: each of the six numbers adds at most 21 bytes, so 128 are enough for all, and together they are the two lines of the bytes that `read_size` keeps. Assumes nothing.
 use Rattle.printer.specs.Texts.{Holds}
 use mathlib.Core.Path.{sym, subst}
 use native.Mathlib.Omega.{arith}

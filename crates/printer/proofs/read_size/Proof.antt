@@ -1,3 +1,4 @@
+-- read_size: of an input shorter than 16385 bytes both counts take all, and any other is cut at 16385 itself. Assumes nothing.
 use lib.ListN.{length}
 use native.Mathlib.Omega.{arith}
 use mathlib.Core.Path.{sym, _∙_}

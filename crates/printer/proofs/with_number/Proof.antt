@@ -1,3 +1,4 @@
+-- with_number: after each turn the first `i` figures stand behind the text, and `count - i` falls; a number has at most 20 figures, so 21 bytes are room for it and the byte behind. Assumes nothing.
 use Prim.Native.Nat.{_-_, _≤_}
 use mathlib.Core.Path.{_≡_}
 use native.Mathlib.Omega.{arith}

@@ -1,3 +1,4 @@
+-- arguments: what `left` more arguments from `p` on answer is what all `n` answer, and `left` falls: a bad `ext_at` is the whole's fault, and at 0 the walk goes on at `p`. Assumes nothing.
 use native.Mathlib.Omega.{arith}
 use borrow.Author.Needs.{needs}
 use Prim.Native.Nat.{_≤_}

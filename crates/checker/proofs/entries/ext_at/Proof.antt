@@ -1,3 +1,4 @@
+-- ext_at: its four returns are the cases of an argument: no byte (3), a position that is not below the width (7), an entry that is not ext (8), and on behind the byte. Assumes nothing.
 use native.Mathlib.Omega.{arith}
 use Prim.Native.Nat.{_≤_, _<_}
 use lib.ListN.{length}

@@ -1,3 +1,4 @@
+-- positions: those passed are all below `width`, and what `left` more from `p` on answer is what all answer; `left` falls, and one missing (3) or too large (7) is the whole's fault. Assumes nothing.
 use native.Mathlib.Omega.{arith}
 use Prim.Native.Nat.{_+_, _-_, _≤_}
 use mathlib.Core.Path.{_≡_, refl}

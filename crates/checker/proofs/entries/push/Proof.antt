@@ -1,3 +1,4 @@
+-- push: the write at `width` leaves the entries before it as they were, so one more entry is held, and one more type where its bytes are the entry's. Assumes nothing.
 use Prim.Native.Nat.{_<_}
 use mathlib.Core.List.{[], _∷_}
 use lib.ListN.{length}

@@ -1,3 +1,4 @@
+-- put_entries: after each turn the first `i` entries from `from` on stand behind the first `width`, and `n - i` falls, so at the end all `n` stand there. Assumes nothing.
 use native.Mathlib.Omega.{arith}
 use Prim.Native.Nat.{_+_, _-_, _≤_, _<_}
 use mathlib.Core.Path.{_≡_}

@@ -1,3 +1,4 @@
+-- put_types: after each turn the first `i` pairs of bytes from `at` on stand behind the first `width` entries, and `n - i` falls; at the end they are the types' bytes. Assumes nothing.
 use native.Mathlib.Omega.{arith}
 use Prim.Native.Nat.{_+_, _-_, _≤_, _<_}
 use mathlib.Core.Path.{_≡_}

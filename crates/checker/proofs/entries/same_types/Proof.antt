@@ -1,3 +1,4 @@
+-- same_types: every entry before `i` agreed in both bytes, and `n - i` falls: a kind or number that differs makes the lists differ, and at `n` all agreed. Assumes nothing.
 use native.Mathlib.Omega.{arith}
 use Prim.Native.Nat.{ℕ, _-_, _≤_, _<_}
 use borrow.Author.Count.{below-more}

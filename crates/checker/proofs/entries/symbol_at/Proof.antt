@@ -1,3 +1,4 @@
+-- symbol_at: symbol `m` of a signature at `at` is `left` symbols ahead of `p`; each turn passes a list by its count, at 0 the parameters stand at `p`, and `p` grows only while inside. Assumes nothing.
 use native.Mathlib.Omega.{arith}
 use Prim.Native.Nat.{_+_, _≤_, _<_}
 use mathlib.Core.Logic.{⊎-elim}

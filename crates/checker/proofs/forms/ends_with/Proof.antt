@@ -1,3 +1,4 @@
+-- ends_with: a list longer than the environment is not its end, and otherwise `same_types` compares the list with as many of the last entries. Assumes nothing.
 use native.Mathlib.Omega.{arith}
 use Rattle.checker.proofs.FormLaws as law
 use Rattle.checker.proofs.forms.ends_with.Statement.{statement}

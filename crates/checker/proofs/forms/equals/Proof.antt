@@ -1,3 +1,4 @@
+-- equals: lists of different lengths differ, and where the list's count is the width `same_types` compares all of it with the environment. Assumes nothing.
 use native.Mathlib.Omega.{arith}
 use Rattle.checker.proofs.FormLaws as law
 use Rattle.checker.proofs.forms.equals.Statement.{statement}

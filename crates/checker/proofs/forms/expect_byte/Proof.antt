@@ -1,3 +1,4 @@
+-- expect_byte: its three returns are the cases of an expected byte: none is left (3), it is another (9), or it is the one and the walk goes on behind it. Assumes nothing.
 use native.Mathlib.Omega.{arith}
 use Rattle.checker.proofs.FormLaws as law
 use borrow.Author.Needs.{needs}

@@ -1,3 +1,4 @@
+-- invoke: it tests as the definition does: a last entry that is a consumer of a known signature (8), a symbol of it (3, 7), and by `equals` the symbol's parameters as the entries before (8). Assumes nothing.
 use native.Mathlib.Omega.{arith}
 use lib.ListN.{getD}
 use Rattle.checker.proofs.FormLaws as law

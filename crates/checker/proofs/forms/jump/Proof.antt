@@ -1,3 +1,4 @@
+-- jump: `name` reads the label or gives its fault, and `equals` says whether the label's types are the environment: on behind the byte if so, 8 at the code if not. Assumes nothing.
 use native.Mathlib.Omega.{arith}
 use Rattle.checker.proofs.FormLaws as law
 use borrow.Author.Needs.{needs}

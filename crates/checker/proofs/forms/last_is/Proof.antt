@@ -1,3 +1,4 @@
+-- last_is: with no entries there is no last one, and otherwise the last entry is the type exactly where both of its bytes agree. Assumes nothing.
 use native.Mathlib.Omega.{arith}
 use Rattle.checker.proofs.ClauseHeads as heads
 use borrow.Author.Needs.{needs}

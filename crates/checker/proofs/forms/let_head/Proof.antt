@@ -1,3 +1,4 @@
+-- let_head: it refuses as the definition does: signature, symbol (3, 7), last entries that are not the parameters (8), no place for the producer (5); else it keeps the entries before them. Assumes nothing.
 use lib.ListN.{getD}
 use borrow.Author.Tests.{not-true, not-false}
 use native.Mathlib.Omega.{arith}

@@ -1,3 +1,4 @@
+-- name: its three returns are the three cases of a name: no byte is left (3), the byte is not below `many` (7), or the byte is the number. Assumes nothing.
 use native.Mathlib.Omega.{arith}
 use Rattle.checker.specs.Forms.{isNamed, isEnded, isUnknown}
 use mathlib.Core.Path.{refl}

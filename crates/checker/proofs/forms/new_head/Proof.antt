@@ -1,3 +1,4 @@
+-- new_head: it refuses as the definition does: signature (3, 7), captures missing (3) or more than entries (8), clause count (3, 9); else only clauses and remainder are left to read. Assumes nothing.
 use native.Mathlib.Omega.{arith}
 use Prim.Native.Nat.{_+_}
 use lib.ListN.{getD}

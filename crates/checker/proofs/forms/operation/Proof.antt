@@ -1,3 +1,4 @@
+-- operation: each code returns its operation's own counts; no code (3), a literal cut short (3) and a code above 6 (6) are refused as the reader of operations refuses them. Assumes nothing.
 use native.Mathlib.Omega.{arith}
 use mathlib.Core.Path.{refl}
 use Rattle.definitions.specs.Terms.{add, sub, mul, ifz, less, exit}

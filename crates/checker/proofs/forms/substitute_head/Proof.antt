@@ -1,3 +1,4 @@
+-- substitute_head: the count is missing (3), above 32 (4), or `positions` reads as many: its fault is the form's, and where it goes on every position names an entry. Assumes nothing.
 use native.Mathlib.Omega.{arith}
 use Prim.Native.Nat.{_+_}
 use Rattle.checker.proofs.Loops as loops

@@ -1,3 +1,4 @@
+-- switch_head: it refuses as the definition does: signature (3, 7), a last entry that is not its producer (8, by `last_is`), clause count (3, 9); else only the clauses are left to read. Assumes nothing.
 use native.Mathlib.Omega.{arith}
 use borrow.Author.Tests.{not-true, not-false}
 use lib.ListN.{getD}

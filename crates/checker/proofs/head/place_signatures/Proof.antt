@@ -1,3 +1,4 @@
+-- place_signatures: after each turn the table has where the first `i` signatures stand, and the others stand from `p` on, by `skip_signature`; `count - i` falls, and at the end all are placed. Assumes nothing.
 use native.Mathlib.Omega.{arith}
 use mathlib.Core.Path.{_≡_, refl}
 use Prim.Native.Nat.{_≤_, _-_}

@@ -1,3 +1,4 @@
+-- read_entry_label: no count byte is 3 and a count above 32 is 4; any other is followed by as many types of the entry, for which `read_entry_types` answers. Assumes nothing.
 use native.Mathlib.Omega.{arith}
 use Prim.Native.Nat.{_+_}
 use Rattle.definitions.specs.Reader.{times}

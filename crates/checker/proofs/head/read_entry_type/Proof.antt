@@ -1,3 +1,4 @@
+-- read_entry_type: the fault of `read_type` comes first, as in the definition; a type that it read has the kind of the byte at `at`, which so decides between 8 and going on. Assumes nothing.
 use Rattle.checker.proofs.Counts as law
 use Rattle.checker.proofs.Loops as loops
 use borrow.Author.Needs.{needs}

@@ -1,3 +1,4 @@
+-- read_labels: no count byte is 3, a count of 0 or above 64 is 4; then the entry's fault is the whole's, and behind the entry the other `count - 1` labels answer. Assumes nothing.
 use native.Mathlib.Omega.{arith}
 use Rattle.checker.proofs.Counts as law
 use Rattle.checker.proofs.Loops as loops
@@ -29,18 +30,18 @@ read-entry-label-requires c κs = search needs
 enum-known-next : tie.Need-enum-known-next
 enum-known-next c = search needs
 
-sub-read-label-list : tie.Need-sub-read-label-list
-sub-read-label-list c = search needs
+sub-read-lists : tie.Need-sub-read-lists
+sub-read-lists c = search needs
 
-read-label-list-requires : tie.Need-read-label-list-requires
-read-label-list-requires c κs = omega (arith, loops.within-on _ _ _ _ (c .before .before .before .read-entry-label .ensures .0) (c .before .next .given .1))
+read-lists-requires : tie.Need-read-lists-requires
+read-lists-requires c κs = omega (arith, loops.within-on _ _ _ _ (c .before .before .before .read-entry-label .ensures .0) (c .before .next .given .1))
 
 enum-known-n : tie.Need-enum-known-n
 enum-known-n c = search needs
 
 returns-4 : tie.Need-returns-4
 returns-4 c = let i = loops.within-on _ _ _ _ (c .before .before .before .before .read-entry-label .ensures .0) (c .before .before .next .given .1) in
-    (law.within-later (c .before .before .before .before .before .before .before .before .before .before .args .at) (c .before .before .next .given .0 .0) (c .before .before .before .before .before .before .before .before .before .before .args .s .now) (c .read-label-list .result) (omega arith) (c .read-label-list .ensures .0), law.labels-on _ _ _ (c .before .before .before .before .before .before .before .before .before .before .pre) (c .before .before .before .before .before .before .before .before .if1 .left) (c .before .before .before .before .before .before .if2 .left) (omega arith) _ (c .before .before .before .before .read-entry-label .ensures .1) _ (c .before .before .next .given .1) _ (c .read-label-list .ensures .1))
+    (law.within-later (c .before .before .before .before .before .before .before .before .before .before .args .at) (c .before .before .next .given .0 .0) (c .before .before .before .before .before .before .before .before .before .before .args .s .now) (c .read-lists .result) (omega arith) (c .read-lists .ensures .0), law.labels-on _ _ _ (c .before .before .before .before .before .before .before .before .before .before .pre) (c .before .before .before .before .before .before .before .before .if1 .left) (c .before .before .before .before .before .before .if2 .left) (omega arith) _ (c .before .before .before .before .read-entry-label .ensures .1) _ (c .before .before .next .given .1) _ (c .read-lists .ensures .1))
 
 returns-5 : tie.Need-returns-5
 returns-5 c = (tt, law.labels-bad _ _ _ (c .before .before .before .before .before .before .before .before .before .pre) (c .before .before .before .before .before .before .before .if1 .left) (c .before .before .before .before .before .if2 .left) (omega arith) _ (c .before .before .before .read-entry-label .ensures .1) _ _ (c .before .n .given .1))
@@ -57,8 +58,8 @@ read-labels-spec =
     add-read-entry-label
     read-entry-label-requires
     enum-known-next
-    sub-read-label-list
-    read-label-list-requires
+    sub-read-lists
+    read-lists-requires
     enum-known-n
     returns-4
     returns-5)

@@ -1,3 +1,4 @@
+-- read_signature: no count byte is 3 and a count above 32 is 4; any other is followed by as many symbols, for which `read_lists` answers. Assumes nothing.
 use native.Mathlib.Omega.{arith}
 use Prim.Native.Nat.{_+_}
 use Rattle.definitions.specs.Reader.{times}
@@ -19,14 +20,14 @@ cast-count c = omega (arith, c .shared-slice-known2 .given (c .before .before .b
 returns-2 : tie.Need-returns-2
 returns-2 c = (tt, law.count-many 0 32 (λ n. times n (symbol (c .before .before .before .before .args .sigs))) _ _ (c .before .before .before .before .pre) (c .before .before .if1 .left) (omega arith) (c .if2 .taken))
 
-add-read-symbols : tie.Need-add-read-symbols
-add-read-symbols c = search needs
+add-read-lists : tie.Need-add-read-lists
+add-read-lists c = search needs
 
-read-symbols-requires : tie.Need-read-symbols-requires
-read-symbols-requires c κs = search needs
+read-lists-requires : tie.Need-read-lists-requires
+read-lists-requires c κs = search needs
 
 returns-3 : tie.Need-returns-3
-returns-3 c = (law.within-later (c .before .before .before .before .before .args .at) (c .before .before .before .before .before .args .at + 1) (c .before .before .before .before .before .args .s .now) (c .read-symbols .result) (omega arith) (c .read-symbols .ensures .0), law.count-fine 0 32 (λ n. times n (symbol (c .before .before .before .before .before .args .sigs))) _ _ (c .before .before .before .before .before .pre) (c .before .before .before .if1 .left) (omega arith) (omega arith) _ (c .read-symbols .ensures .1))
+returns-3 c = (law.within-later (c .before .before .before .before .before .args .at) (c .before .before .before .before .before .args .at + 1) (c .before .before .before .before .before .args .s .now) (c .read-lists .result) (omega arith) (c .read-lists .ensures .0), law.count-fine 0 32 (λ n. times n (symbol (c .before .before .before .before .before .args .sigs))) _ _ (c .before .before .before .before .before .pre) (c .before .before .before .if1 .left) (omega arith) (omega arith) _ (c .read-lists .ensures .1))
 
 pub read-signature-spec : {M : Type 1} → statement M
 read-signature-spec =
@@ -36,6 +37,6 @@ read-signature-spec =
     shared-slice-read-count
     cast-count
     returns-2
-    add-read-symbols
-    read-symbols-requires
+    add-read-lists
+    read-lists-requires
     returns-3)

@@ -1,3 +1,4 @@
+-- read_signatures: no count byte is 3 and a count above 64 is 4; any other is how many signatures follow and how many a type may name, and `read_signature_list` answers. Assumes nothing.
 use native.Mathlib.Omega.{arith}
 use Prim.Native.Nat.{_+_}
 use Rattle.definitions.specs.Reader.{times}

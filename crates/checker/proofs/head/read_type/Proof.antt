@@ -1,3 +1,4 @@
+-- read_type: its seven returns are the cases of two bytes: kind missing (3) or above 2 (6), number missing (3), not 0 for ext (6), 0 for ext, unknown signature (7), known one. Assumes nothing.
 use native.Mathlib.Omega.{arith}
 use Prim.Native.Nat.{_+_}
 use Rattle.checker.proofs.TypeLaws as law

@@ -1,3 +1,4 @@
+-- read_types: what `left` more types from `p` on answer is what all answer, and `left` falls: a bad type is the whole's fault, and at 0 the walk goes on at `p`. Assumes nothing.
 use native.Mathlib.Omega.{arith}
 use borrow.Author.Needs.{needs}
 use Prim.Native.Nat.{_≤_}

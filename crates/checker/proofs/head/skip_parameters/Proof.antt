@@ -1,3 +1,4 @@
+-- skip_parameters: a list that stands at `at` has one byte and two for each type, so `at + size` is behind it; where there are fewer bytes none stands there, and any offset will do. Assumes nothing.
 use native.Mathlib.Omega.{arith}
 use Rattle.definitions.specs.Layout.{typeBytes}
 use Rattle.checker.proofs.Places as law

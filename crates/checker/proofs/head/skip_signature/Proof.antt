@@ -1,3 +1,4 @@
+-- skip_signature: what is behind `left` more lists from `p` on is behind the signature, and `left` falls with each list skipped; at 0 that is `p`, and past the image's end none stands. Assumes nothing.
 use native.Mathlib.Omega.{arith}
 use borrow.Author.Needs.{needs}
 use Prim.Native.Nat.{ℕ}

@@ -1,3 +1,4 @@
+-- gain: with nothing gained the environment stays, with 32 entries nothing is promised, and otherwise `push` puts one ext behind the types held. Assumes nothing.
 use Rattle.definitions.specs.Terms.{ext}
 use Rattle.checker.proofs.RegionLaws as regions
 use borrow.Author.Needs.{needs}

@@ -1,3 +1,4 @@
+-- bodies: what the bodies of the labels from `l` on answer from `p` on is what all answer, and fewer labels are left each turn: a bad `region` is the whole's fault, and after the last it goes on at `p`. Assumes nothing.
 use native.Mathlib.Omega.{arith}
 use borrow.Author.Needs.{needs}
 use Prim.Native.Nat.{_≤_, _-_}

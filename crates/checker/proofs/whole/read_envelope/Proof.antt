@@ -1,3 +1,4 @@
+-- read_envelope: its five returns are the tests in their order: too short and too large (1 at 0), another version (2 at 0), a length field that is not the size (1 at 1), and on at 3. Assumes nothing.
 use native.Mathlib.Omega.{arith}
 use Rattle.checker.proofs.CheckLaws as law
 use borrow.Author.Needs.{needs}

@@ -1,3 +1,4 @@
+-- read_image: a fault of `read_envelope` is the image's; where it goes on the image is not too large, and `read_program` answers for all that follows. Assumes nothing.
 use Rattle.checker.proofs.Loops as loops
 use Rattle.checker.proofs.CheckLaws as law
 use borrow.Author.Needs.{needs}

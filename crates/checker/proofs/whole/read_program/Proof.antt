@@ -1,3 +1,4 @@
+-- read_program: a fault of the signatures, then of the labels, is the program's; where both were read the head is known, and `read_rest` answers for what follows. Assumes nothing.
 use native.Mathlib.Omega.{arith}
 use Rattle.checker.proofs.Loops as loops
 use Rattle.checker.proofs.CheckLaws as law

@@ -1,3 +1,4 @@
+-- read_rest: the filled tables say where each signature and label that was read stands, so `bodies` answers as the definition; behind the last body 11 for bytes left, else the end. Assumes nothing.
 use native.Mathlib.Omega.{arith}
 use mathlib.Core.Path.{sym}
 use lib.Seq.{length-take-le}
