@@ -24,6 +24,7 @@ use Rattle.checker.specs.declared.Walk.the-variants.{On, Bad}
 use Rattle.checker.specs.declared.Name.{Name}
 use Rattle.checker.specs.declared.Name.the-variants.{Is, Not}
 use Rattle.checker.specs.declared.Step.the-variants.{To, Fails}
+use Rattle.checker.specs.declared.Cases.the-variants.{Of, Wrong}
 use Rattle.checker.specs.declared.Takes.the-variants.{Known as TakesKnown, Unknown as TakesUnknown}
 use Rattle.checker.specs.Shown.{forget, shown, Next}
 use Rattle.checker.specs.Laid.{Laid, Holds, Placed, signatureBytes}
@@ -44,33 +45,33 @@ expected-on s wanted at q h n e g =
 -- ---- new
 
 module _ (image sigs s : List ℕ) (width at : ℕ) (q : Name) (h : NameIs s (length sigs) (at + 1) q) where
-  pub new-signature : (n o : ℕ) → q ≡ Not n o → NewIs image sigs s width at (Fails n o)
+  pub new-signature : (n o : ℕ) → q ≡ Not n o → NewIs image sigs s width at (Wrong n o)
   unfolding after
   new-signature n o e = newFails {n = n} {o = o} (λ Σ Θ inner d Δ p k. rw (known-not s (length sigs) (at + 1) q h Σ (p .many) n o e))
 
   module _ (t : ℕ) (e : q ≡ Is t) where
-    pub new-end : at + 1 + 1 ≡ length s → NewIs image sigs s width at (Fails 3 (at + 1 + 1))
+    pub new-end : at + 1 + 1 ≡ length s → NewIs image sigs s width at (Wrong 3 (at + 1 + 1))
     unfolding after
     new-end y = newFails {n = 3} {o = at + 1 + 1} (λ Σ Θ inner d Δ p k.
         with′ (at-signature image sigs s at q h t e Σ p) λ w.
         rw (w .3, byte-end s (at + 1 + 1) y))
 
     module _ (more : at + 1 + 1 < length s) where
-      pub new-many : width < getD s (at + 1 + 1) 0 → NewIs image sigs s width at (Fails 8 (at + 1 + 1))
+      pub new-many : width < getD s (at + 1 + 1) 0 → NewIs image sigs s width at (Wrong 8 (at + 1 + 1))
       unfolding after need
       new-many y = newFails {n = 8} {o = at + 1 + 1} (λ Σ Θ inner d Δ p k.
           with′ (at-signature image sigs s at q h t e Σ p) λ w.
           rw (w .3, byte-at s (at + 1 + 1) more, lt-leb (getD s (at + 1 + 1) 0) (length Δ) (rw k y)))
 
       module _ (few : getD s (at + 1 + 1) 0 ≤ width) (x : Walk) (g : forget (expected (getD image (getD sigs t 0) 0) (at + 1 + 1 + 1) (drop (at + 1 + 1 + 1) s)) ≡ shown s x) (n : Next (at + 1 + 1 + 1) s x) where
-        pub new-count : (k o : ℕ) → x ≡ Bad k o → NewIs image sigs s width at (Fails k o)
+        pub new-count : (k o : ℕ) → x ≡ Bad k o → NewIs image sigs s width at (Wrong k o)
         unfolding after need
         new-count k o z = newFails {n = k} {o = o} (λ Σ Θ inner d Δ p y.
             with′ (at-signature image sigs s at q h t e Σ p) λ w.
             let b : expected (length (w .0)) (at + 1 + 1 + 1) (drop (at + 1 + 1 + 1) s) ≡ refused (fault k o) = rw (w .2) at (shown-bad s (expected (getD image (getD sigs t 0) 0) (at + 1 + 1 + 1) (drop (at + 1 + 1 + 1) s)) x k o g z) in
             rw (w .3, byte-at s (at + 1 + 1) more, le-leb (getD s (at + 1 + 1) 0) (length Δ) (rw y few), b))
 
-        pub new-goes : (e′ : ℕ) → x ≡ On e′ → NewIs image sigs s width at (To (getD sigs t 0) (getD s (at + 1 + 1) 0))
+        pub new-goes : (e′ : ℕ) → x ≡ On e′ → NewIs image sigs s width at (Of (getD sigs t 0) (getD s (at + 1 + 1) 0))
         unfolding after need
         new-goes e′ z =
             let i : (at + 1 < length s) × (t ≡ getD s (at + 1) 0) × (t < length sigs) = name-is s (length sigs) (at + 1) q h t e in

@@ -225,11 +225,11 @@ module _ (image sigs s : List ℕ) (env : List (List ℕ)) (full : length env �
           with′ (at-symbol (w .0) (w .1) (w .2) Δ k) λ v.
           rw (w .3, v .3, ← (v .2), z, lt-leb (length (front Δ (length (v .0)) ++ (prd t ∷ []))) widest (rw (kept-length (v .0) Δ (prd t) k (v .1) b) (omega arith))))
 
-      pub let-goes : r ≡ true → getD image list 0 ≤ width → (width - getD image list 0 ≡ 32 → ⊥) → LetIs image sigs s env width at (To (at + 1 + 1 + 1) (width - getD image list 0))
+      pub let-goes : r ≡ true → getD image list 0 ≤ width → (width - getD image list 0 ≡ 32 → ⊥) → LetIs image sigs s env width at (To (at + 1 + 1 + 1) (width - getD image list 0 + 1))
       unfolding after need
       let-goes z b y =
           let x : (at + 1 + 1 < length s) × (m ≡ getD s (at + 1 + 1) 0) × (m < getD image (getD sigs t 0) 0) = name-is s (getD image (getD sigs t 0) 0) (at + 1 + 1) q′ h′ m e′ in
-          letGoes {on = at + 1 + 1 + 1} {kept = width - getD image list 0} refl (omega arith) (omega arith) (omega arith) (λ Σ Θ inner d Δ p k.
+          letGoes {on = at + 1 + 1 + 1} {kept = width - getD image list 0} {wide = width - getD image list 0 + 1} refl (omega arith) (omega arith) refl (λ Σ Θ inner d Δ p k.
           with′ (at-signature image sigs s at q h t e Σ p) λ w.
           with′ (at-symbol (w .0) (w .1) (w .2) Δ k) λ v. (
             front Δ (length (v .0)),

@@ -10,6 +10,7 @@ pub mod Symbols
 pub mod FormLaws
 pub mod ClauseHeads
 pub mod RegionLaws
+pub mod ClauseForms
 pub mod StatementLaws
 pub mod BodyLaws
 pub mod CheckLaws

@@ -15,6 +15,8 @@ use Rattle.checker.specs.declared.Name.{Name}
 use Rattle.checker.specs.declared.Name.the-variants.{Is, Not}
 use Rattle.checker.specs.declared.Step.{Step}
 use Rattle.checker.specs.declared.Step.the-variants.{To, Fails}
+use Rattle.checker.specs.declared.Cases.{Cases}
+use Rattle.checker.specs.declared.Cases.the-variants.{Of, Wrong}
 use Rattle.checker.specs.declared.Takes.{Takes}
 use Rattle.checker.specs.declared.Takes.the-variants.{Known as TakesKnown, Unknown as TakesUnknown}
 use Rattle.checker.specs.Shown.{forget, shown}
@@ -41,29 +43,29 @@ pub record InvokeIs (image sigs s : List ℕ) (env : List (List ℕ)) (width at 
   pub is : (Σ : List Signature) (Θ : List Environment) (inner : Inner) (d : ℕ) (Δ : Environment) → Placed signatureBytes image sigs Σ → Holds env width Δ
       → forget (anInvoke Σ Θ inner at d Δ (at + 1) (drop (at + 1) s)) ≡ shown s r
 
--- let: its remainder, and the entries before those that go
+-- let: its remainder, whose environment is the entries before those that go and one more
 pub data LetIs (image sigs s : List ℕ) (env : List (List ℕ)) (width at : ℕ) : Step → Type 0 where
-  letGoes : {on kept : ℕ} → on ≡ at + 1 + 1 + 1 → on ≤ length s → kept ≤ width → kept < 32
+  letGoes : {on kept wide : ℕ} → on ≡ at + 1 + 1 + 1 → on ≤ length s → kept < 32 → wide ≡ kept + 1
       → ((Σ : List Signature) (Θ : List Environment) (inner : Inner) (d : ℕ) (Δ : Environment) → Placed signatureBytes image sigs Σ → Holds env width Δ
       → (Γ : Environment) × Holds env kept Γ × (forget (aLet Σ Θ inner at d Δ (at + 1) (drop (at + 1) s)) ≡ forget (inner d (Γ ++ (prd (getD s (at + 1) 0) ∷ [])) on (drop on s))))
-      → LetIs image sigs s env width at (To on kept)
+      → LetIs image sigs s env width at (To on wide)
   letFails : {n o : ℕ}
       → ((Σ : List Signature) (Θ : List Environment) (inner : Inner) (d : ℕ) (Δ : Environment) → Placed signatureBytes image sigs Σ → Holds env width Δ
       → forget (aLet Σ Θ inner at d Δ (at + 1) (drop (at + 1) s)) ≡ refused (fault n o))
       → LetIs image sigs s env width at (Fails n o)
 
 -- new, up to its clauses: the offset of its signature, and how many entries it captures
-pub data NewIs (image sigs s : List ℕ) (width at : ℕ) : Step → Type 0 where
+pub data NewIs (image sigs s : List ℕ) (width at : ℕ) : Cases → Type 0 where
   newGoes : {sig captures : ℕ} → at + 1 + 1 + 1 + 1 ≤ length s → captures ≤ width → sig ≡ getD sigs (getD s (at + 1) 0) 0 → getD s (at + 1) 0 < length sigs
       → ((Σ : List Signature) (Θ : List Environment) (inner : Inner) (d : ℕ) (Δ : Environment) → Placed signatureBytes image sigs Σ → length Δ ≡ width
       → (S : Signature) × Laid image sig (signatureBytes S)
       × (forget (aNew Σ Θ inner at d Δ (at + 1) (drop (at + 1) s)) ≡ forget (after (clauses Σ Θ inner named d [] (back Δ captures) 0 S (at + 1 + 1 + 1 + 1) (drop (at + 1 + 1 + 1 + 1) s)) (λ cs.
       need (fits (front Δ captures ++ (cns (getD s (at + 1) 0) ∷ []))) 5 at >> (inner d (front Δ captures ++ (cns (getD s (at + 1) 0) ∷ [])) >>= (λ u. give (new (getD s (at + 1) 0) captures cs u)))))))
-      → NewIs image sigs s width at (To sig captures)
+      → NewIs image sigs s width at (Of sig captures)
   newFails : {n o : ℕ}
       → ((Σ : List Signature) (Θ : List Environment) (inner : Inner) (d : ℕ) (Δ : Environment) → Placed signatureBytes image sigs Σ → length Δ ≡ width
       → forget (aNew Σ Θ inner at d Δ (at + 1) (drop (at + 1) s)) ≡ refused (fault n o))
-      → NewIs image sigs s width at (Fails n o)
+      → NewIs image sigs s width at (Wrong n o)
 
 -- switch, up to its clauses: the offset of its signature
 pub data SwitchIs (image sigs s : List ℕ) (env : List (List ℕ)) (width at : ℕ) : Name → Type 0 where

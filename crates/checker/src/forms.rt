@@ -10,6 +10,7 @@ ghost use Rattle.definitions.specs.Reader.{expected};
 ghost use Rattle.checker.specs.Laid.{Laid, Holds, Known, ParametersAt, parametersBytes, signatureBytes};
 ghost use Rattle.checker.specs.Shown.{forget, shown, Within, Next};
 ghost use Rattle.checker.specs.Forms.{NameIs, JumpIs, InvokeIs, LetIs, NewIs, SwitchIs, SubstituteIs, OperationIs, LastIs};
+use crate::Cases;
 use crate::Name;
 use crate::Step;
 use crate::Takes;
@@ -98,7 +99,7 @@ pub(crate) fn jump(
     }
 }
 
-// let, up to its remainder: where that stands, and how many entries are kept.
+// let, up to its remainder: where that stands, and how many entries its environment has.
 pub(crate) fn let_head(
     image: &[u8],
     sigs: &[usize],
@@ -123,7 +124,7 @@ pub(crate) fn let_head(
                     if kept == 32 {
                         return Step::Fails(5, at);
                     }
-                    Step::To(at + 1 + 1 + 1, kept)
+                    Step::To(at + 1 + 1 + 1, kept + 1)
                 }
                 Name::Not(n, o) => Step::Fails(n, o),
             }
@@ -133,7 +134,7 @@ pub(crate) fn let_head(
 }
 
 // new, up to its clauses: the offset of its signature, and how many entries it captures.
-pub(crate) fn new_head(image: &[u8], sigs: &[usize], s: &[u8], width: usize, at: usize) -> Step
+pub(crate) fn new_head(image: &[u8], sigs: &[usize], s: &[u8], width: usize, at: usize) -> Cases
     requires { ⌜ (at < length (now s)) × Known signatureBytes (now image) (now sigs) ⌝ }
     ensures { λ r. ⌜ NewIs (now (image .entry)) (now (sigs .entry)) (now (s .entry)) width at r ⌝ }
 {
@@ -142,18 +143,18 @@ pub(crate) fn new_head(image: &[u8], sigs: &[usize], s: &[u8], width: usize, at:
             let sig = sigs[t];
             let place = at + 1 + 1;
             if place == s.len() {
-                return Step::Fails(3, place);
+                return Cases::Wrong(3, place);
             }
             let captures = s[place] as usize;
             if width < captures {
-                return Step::Fails(8, place);
+                return Cases::Wrong(8, place);
             }
             match expect_byte(s, image[sig] as usize, place + 1) {
-                Walk::On(next) => Step::To(sig, captures),
-                Walk::Bad(n, o) => Step::Fails(n, o),
+                Walk::On(next) => Cases::Of(sig, captures),
+                Walk::Bad(n, o) => Cases::Wrong(n, o),
             }
         }
-        Name::Not(n, o) => Step::Fails(n, o),
+        Name::Not(n, o) => Cases::Wrong(n, o),
     }
 }
 
@@ -199,7 +200,7 @@ pub(crate) fn switch_head(
     }
 }
 
-// substitute, up to its remainder: where that stands, and how many positions there are.
+// substitute, up to its remainder: where that stands, and how many positions there are, each an entry of its environment.
 pub(crate) fn substitute_head(s: &[u8], width: usize, at: usize) -> Step
     requires { ⌜ at < length (now s) ⌝ }
     ensures { λ r. ⌜ SubstituteIs (now (s .entry)) width at r ⌝ }

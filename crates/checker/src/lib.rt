@@ -16,16 +16,22 @@ pub(crate) enum Walk {
     Bad(u8, usize),
 }
 
-// A number that names one of so many things, or the fault.
+// Which of so many things a byte names, or where the signature of a switch stands; or the fault.
 pub(crate) enum Name {
     Is(usize),
     Not(u8, usize),
 }
 
-// Where a statement that goes on ends, and a number that it gives: a width or a count; or the fault.
+// Where the remainder of a statement stands, and how many entries its environment has; or the fault.
 pub(crate) enum Step {
     To(usize, usize),
     Fails(u8, usize),
+}
+
+// Where the signature of a statement's clauses stands, and how many entries they capture; or the fault.
+pub(crate) enum Cases {
+    Of(usize, usize),
+    Wrong(u8, usize),
 }
 
 // Where an operation's arguments stand, how many they are, how many clauses follow, and how many integers each gains; or the fault.

@@ -1,9 +1,10 @@
 // Statements and clauses, which contain one another.
 ghost use Prim.Native.Nat.{_+_, _-_, _≤_, _<_};
-ghost use lib.ListN.{length};
+ghost use lib.ListN.{length, getD};
 ghost use Rattle.checker.specs.Laid.{Known, SignatureAt, signatureBytes, parametersBytes};
 ghost use Rattle.checker.specs.Shown.{Within};
-ghost use Rattle.checker.specs.Statements.{StatementIs, RegionIs, ClausesAre, BareAre, ExternIs, GainIs};
+ghost use Rattle.checker.specs.Statements.{StatementIs, RegionIs, ClausesAre, BareAre, ExternIs, NewWhole, SwitchWhole, GoesOn, OnwardIs, Ready, RenewedIs, GainIs};
+use crate::Cases;
 use crate::Name;
 use crate::Step;
 use crate::Takes;
@@ -38,6 +39,25 @@ fn gain(env: [[u8; 2]; 32], width: usize, gained: usize) -> [[u8; 2]; 32]
     push(env, width, entry)
 }
 
+// The environment of the remainder of the statement at `at`, of `width` entries: those that substitute names, or those that let or new keep and one more.
+fn renewed(s: &[u8], env: [[u8; 2]; 32], width: usize, at: usize) -> [[u8; 2]; 32]
+    requires { ⌜ (at < length (now s)) × Ready (now s) width at ⌝ }
+    ensures { λ r. ⌜ RenewedIs (now (s .entry)) env width at r ⌝ }
+{
+    let code = s[at];
+    match code {
+        1 => gather(s, env, at + 1 + 1, width),
+        3 => {
+            let entry = Type::prd(s[at + 1]);
+            push(env, width - 1, entry)
+        }
+        _ => {
+            let entry = Type::cns(s[at + 1]);
+            push(env, width - 1, entry)
+        }
+    }
+}
+
 // The statement at `at` of the region s, `depth` clauses deep, with an environment of `width` entries.
 pub(crate) fn stmt(
     image: &[u8],
@@ -62,99 +82,68 @@ pub(crate) fn stmt(
         }
         let code = s[p];
         match code {
-            0 => {
-                return jump(image, labels, s, e, w, p);
-            }
-            1 => match substitute_head(s, w, p) {
-                Step::To(on, count) => {
-                    let named = gather(s, e, p + 1 + 1, count);
-                    e = named;
-                    w = count;
+            1 | 3 | 4 => match onward(image, sigs, labels, s, e, w, depth, p) {
+                Step::To(on, wide) => {
+                    let next = renewed(s, e, wide, p);
+                    e = next;
+                    w = wide;
                     p = on;
                 }
                 Step::Fails(n, o) => {
                     return Walk::Bad(n, o);
                 }
             },
-            2 => {
-                return extern_(image, sigs, labels, s, e, w, depth, p + 1);
-            }
-            3 => match let_head(image, sigs, s, e, w, p) {
-                Step::To(on, kept) => {
-                    let t = s[p + 1];
-                    let entry = Type::prd(t);
-                    let made = push(e, kept, entry);
-                    e = made;
-                    w = kept + 1;
-                    p = on;
-                }
-                Step::Fails(n, o) => {
-                    return Walk::Bad(n, o);
-                }
-            },
-            4 => match new_head(image, sigs, s, w, p) {
-                Step::To(sig, captures) => {
-                    let kept = w - captures;
-                    match clauses(
-                        image,
-                        sigs,
-                        labels,
-                        s,
-                        e,
-                        0,
-                        kept,
-                        captures,
-                        depth,
-                        p + 1 + 1 + 1 + 1,
-                        sig,
-                    ) {
-                        Walk::On(on) => {
-                            if kept == 32 {
-                                return Walk::Bad(5, p);
-                            }
-                            let t = s[p + 1];
-                            let entry = Type::cns(t);
-                            let made = push(e, kept, entry);
-                            e = made;
-                            w = kept + 1;
-                            p = on;
-                        }
-                        Walk::Bad(n, o) => {
-                            return Walk::Bad(n, o);
-                        }
-                    }
-                }
-                Step::Fails(n, o) => {
-                    return Walk::Bad(n, o);
-                }
-            },
-            5 => match switch_head(image, sigs, s, e, w, p) {
-                Name::Is(sig) => {
-                    return clauses(
-                        image,
-                        sigs,
-                        labels,
-                        s,
-                        e,
-                        w - 1,
-                        0,
-                        0,
-                        depth,
-                        p + 1 + 1 + 1,
-                        sig,
-                    );
-                }
-                Name::Not(n, o) => {
-                    return Walk::Bad(n, o);
-                }
-            },
-            6 => {
-                return invoke(image, sigs, s, e, w, p);
-            }
             _ => {
-                return Walk::Bad(6, p);
+                return last(image, sigs, labels, s, e, w, depth, p);
             }
         }
+    }
+}
+
+// substitute, let or new, of which the code stands at `at`: where its remainder stands, and how many entries its environment has.
+fn onward(
+    image: &[u8],
+    sigs: &[usize],
+    labels: &[usize],
+    s: &[u8],
+    env: [[u8; 2]; 32],
+    width: usize,
+    depth: usize,
+    at: usize,
+) -> Step
+    requires { ⌜ GoesOn (getD (now s) at 0) × ((at < length (now s)) × ((width ≤ 32) × ((depth ≤ 48) × ((length (now image) ≤ 16384) × ((Known signatureBytes (now image) (now sigs) × Known parametersBytes (now image) (now labels))))))) ⌝ }
+    ensures { λ r. ⌜ OnwardIs (now (image .entry)) (now (sigs .entry)) (now (labels .entry)) (now (s .entry)) env width depth at r ⌝ }
+{
+    let code = s[at];
+    match code {
+        1 => substitute_head(s, width, at),
+        3 => let_head(image, sigs, s, env, width, at),
+        _ => new_(image, sigs, labels, s, env, width, depth, at),
+    }
+}
+
+// A statement with no remainder, of which the code stands at `at`: 6 where no form has that code.
+fn last(
+    image: &[u8],
+    sigs: &[usize],
+    labels: &[usize],
+    s: &[u8],
+    env: [[u8; 2]; 32],
+    width: usize,
+    depth: usize,
+    at: usize,
+) -> Walk
+    requires { ⌜ (GoesOn (getD (now s) at 0) → ⊥) × ((at < length (now s)) × ((width ≤ 32) × ((depth ≤ 48) × ((length (now image) ≤ 16384) × ((Known signatureBytes (now image) (now sigs) × Known parametersBytes (now image) (now labels))))))) ⌝ }
+    ensures within { λ r. ⌜ Within at (now (s .entry)) r ⌝ }
+    ensures { λ r. ⌜ StatementIs (now (image .entry)) (now (sigs .entry)) (now (labels .entry)) (now (s .entry)) env width depth at r ⌝ }
+{
+    let code = s[at];
+    match code {
+        0 => jump(image, labels, s, env, width, at),
+        2 => extern_(image, sigs, labels, s, env, width, depth, at + 1),
+        5 => switch_(image, sigs, labels, s, env, width, depth, at),
+        6 => invoke(image, sigs, s, env, width, at),
+        _ => Walk::Bad(6, at),
     }
 }
 
@@ -182,6 +171,84 @@ fn extern_(
             Walk::Bad(n, o) => Walk::Bad(n, o),
         },
         Takes::Unknown(n, o) => Walk::Bad(n, o),
+    }
+}
+
+// new with its clauses, of which the code stands at `at`: where its remainder stands, and how many entries its environment has.
+fn new_(
+    image: &[u8],
+    sigs: &[usize],
+    labels: &[usize],
+    s: &[u8],
+    env: [[u8; 2]; 32],
+    width: usize,
+    depth: usize,
+    at: usize,
+) -> Step
+    requires { ⌜ (at < length (now s)) × ((width ≤ 32) × ((depth ≤ 48) × ((length (now image) ≤ 16384) × ((Known signatureBytes (now image) (now sigs) × Known parametersBytes (now image) (now labels)))))) ⌝ }
+    ensures { λ r. ⌜ NewWhole (now (image .entry)) (now (sigs .entry)) (now (labels .entry)) (now (s .entry)) env width depth at r ⌝ }
+{
+    match new_head(image, sigs, s, width, at) {
+        Cases::Of(sig, captures) => {
+            let kept = width - captures;
+            match clauses(
+                image,
+                sigs,
+                labels,
+                s,
+                env,
+                0,
+                kept,
+                captures,
+                depth,
+                at + 1 + 1 + 1 + 1,
+                sig,
+            ) {
+                Walk::On(on) => {
+                    if kept == 32 {
+                        return Step::Fails(5, at);
+                    }
+                    Step::To(on, kept + 1)
+                }
+                Walk::Bad(n, o) => Step::Fails(n, o),
+            }
+        }
+        Cases::Wrong(n, o) => Step::Fails(n, o),
+    }
+}
+
+// switch with its clauses, of which the code stands at `at`.
+fn switch_(
+    image: &[u8],
+    sigs: &[usize],
+    labels: &[usize],
+    s: &[u8],
+    env: [[u8; 2]; 32],
+    width: usize,
+    depth: usize,
+    at: usize,
+) -> Walk
+    requires { ⌜ (at < length (now s)) × ((width ≤ 32) × ((depth ≤ 48) × ((length (now image) ≤ 16384) × ((Known signatureBytes (now image) (now sigs) × Known parametersBytes (now image) (now labels)))))) ⌝ }
+    ensures within { λ r. ⌜ Within at (now (s .entry)) r ⌝ }
+    ensures { λ r. ⌜ SwitchWhole (now (image .entry)) (now (sigs .entry)) (now (labels .entry)) (now (s .entry)) env width depth at r ⌝ }
+{
+    match switch_head(image, sigs, s, env, width, at) {
+        Name::Is(sig) => {
+            clauses(
+                image,
+                sigs,
+                labels,
+                s,
+                env,
+                width - 1,
+                0,
+                0,
+                depth,
+                at + 1 + 1 + 1,
+                sig,
+            )
+        }
+        Name::Not(n, o) => Walk::Bad(n, o),
     }
 }
 

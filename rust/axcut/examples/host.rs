@@ -3,26 +3,30 @@
 use std::error::Error;
 use std::{env, fs};
 
+use axcut::Ending;
+
 /// How many statements a rule may perform, and how many words it is lent to store what it builds.
 const FUEL: u32 = 100_000;
 const WORDS: usize = 1_024;
 
-/// The check's number for an accepted image, and the run's where the rule came to its exit.
-const ACCEPTED: u8 = 0;
-const EXIT: u8 = 40;
+/// What a rule exits with.
+const KEEP: u64 = 0;
+const LIST: u64 = 1;
 
 /// What to do with a deed. Only an exit with 1 lists it; without a clear answer it stays.
 fn advice(rule: &[u8], day: u64, date: u64) -> String {
     let verdict = axcut::check(rule);
-    if verdict.number != ACCEPTED {
+    if !verdict.is_accepted() {
         return format!("keep, no answer: refused, {} at {}", verdict.number, verdict.offset);
     }
     let mut table = [0; WORDS];
-    let answer = axcut::run(rule, &[day, date], FUEL, &mut table);
-    match (answer.number, answer.value) {
-        (EXIT, 0) => "keep".into(),
-        (EXIT, 1) => "list for deletion".into(),
-        (number, value) => format!("keep, no answer: the run gave {number}, value {value}"),
+    match axcut::run(rule, &[day, date], FUEL, &mut table).ending() {
+        Ending::Exit(KEEP) => "keep".into(),
+        Ending::Exit(LIST) => "list for deletion".into(),
+        Ending::Exit(value) => format!("keep, no answer: exit with {value}"),
+        Ending::FuelSpent => "keep, no answer: fuel spent".into(),
+        Ending::RoomSpent => "keep, no answer: room spent".into(),
+        Ending::Refused(number) => format!("keep, no answer: the run is refused, {number}"),
     }
 }
 

@@ -3,14 +3,14 @@
 
 /// The library's struct of the same name, field by field.
 #[repr(C)]
-pub(crate) struct Answer {
+pub(crate) struct Verdict {
     pub(crate) number: u8,
     pub(crate) offset: u64,
 }
 
 /// The library's struct of the same name, field by field.
 #[repr(C)]
-pub(crate) struct Ran {
+pub(crate) struct Answer {
     pub(crate) number: u8,
     pub(crate) steps: u32,
     pub(crate) words: u32,
@@ -19,7 +19,7 @@ pub(crate) struct Ran {
 
 // A slice is handed over as its first element's address and its length, counted in elements.
 extern "C" {
-    fn axcut_check(image: *const u8, length: usize) -> Answer;
+    fn axcut_check(image: *const u8, length: usize) -> Verdict;
 
     fn axcut_run(
         image: *const u8,
@@ -29,11 +29,11 @@ extern "C" {
         fuel: u32,
         table: *mut u64,
         table_length: usize,
-    ) -> Ran;
+    ) -> Answer;
 }
 
-/// The library's answer for `image`.
-pub(crate) fn check(image: &[u8]) -> Answer {
+/// The library's verdict on `image`.
+pub(crate) fn check(image: &[u8]) -> Verdict {
     // SAFETY: address and length are a live slice's, which nobody writes during the call; of an
     // empty slice the address is not null and is never read. The library is proved to read inside
     // the slice only, to write nothing of the caller's, and to end; it keeps no address.
@@ -41,7 +41,7 @@ pub(crate) fn check(image: &[u8]) -> Answer {
 }
 
 /// The library's answer for a run, which writes to `table`.
-pub(crate) fn run(image: &[u8], args: &[u64], fuel: u32, table: &mut [u64]) -> Ran {
+pub(crate) fn run(image: &[u8], args: &[u64], fuel: u32, table: &mut [u64]) -> Answer {
     // SAFETY: addresses and lengths are three live slices'; `table` is borrowed alone, so nobody
     // else reads or writes it during the call and it overlaps neither `image` nor `args`, which
     // nobody writes. Of an empty slice the address is aligned, not null, and never read or written.

@@ -1,4 +1,6 @@
-//! The proved check against the second opinion, on the same images in every run.
+//! The proved check against the second opinion, on the same images in every run. Number and offset
+//! are held to its check, which walks the bytes as the proved one does; acceptance is held to its
+//! typing rules too, which know terms only.
 
 #[path = "../../second/tests/common/mod.rs"]
 mod common;
@@ -14,6 +16,7 @@ use second::damage::{
 use second::generate::{self, Profile};
 use second::random::Random;
 use second::terms::{Statement, Straight, Type};
+use second::typing::is_image_of_well_typed;
 
 /// From it, all images are made.
 const SEED: u64 = 47;
@@ -34,12 +37,14 @@ struct Tally {
 }
 
 impl Tally {
-    /// Compares the two opinions on an image, and counts it.
+    /// Compares the opinions on an image, and counts it.
     fn compare(&mut self, image: &[u8]) {
         let proved = axcut::check(image);
         let second = second::check(image);
-        let both = ((proved.number, proved.offset), (second.number, second.offset));
-        assert_eq!(both.0, both.1, "proved and second opinion on {image:?}");
+        let expected = (second.number, second.offset as usize);
+        assert_eq!((proved.number, proved.offset), expected, "proved and second on {image:?}");
+        let is_typed = is_image_of_well_typed(image);
+        assert_eq!(proved.is_accepted(), is_typed, "proved and typing on {image:?}");
         self.met[usize::from(proved.number)] += 1;
     }
 

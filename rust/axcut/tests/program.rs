@@ -5,7 +5,8 @@ mod common;
 
 use std::io::Write;
 use std::path::{Path, PathBuf};
-use std::process::{Command, Stdio};
+use std::process::{Command, Output, Stdio};
+use std::sync::LazyLock;
 
 use common::{A, B, C};
 use second::assemble::assemble;
@@ -21,20 +22,19 @@ const MOST_INPUT: usize = 16_385;
 const FUEL: u32 = 100_000;
 const WORDS: usize = 1_024;
 
-/// The program, which is proved and built first where that was not done yet.
-fn program() -> PathBuf {
+/// The program. The toolchain is asked for it, once for all tests: a file that is there does not say
+/// what it was built from. After a proof of the same sources, as the gate's, it has nothing to do.
+static PROGRAM: LazyLock<PathBuf> = LazyLock::new(|| {
     let repository = Path::new(env!("CARGO_MANIFEST_DIR")).join("../..");
-    let program = repository.join("target/bin/axcut");
-    if !program.exists() {
-        let built = Command::new("rt").args(["check", "axcut"]).current_dir(&repository).output();
-        assert!(built.expect("the toolchain").status.success(), "the program was not built");
-    }
-    program
-}
+    let built = Command::new("rt").args(["check", "axcut"]).current_dir(&repository).output();
+    let Output { status, stdout, .. } = built.expect("the toolchain");
+    assert!(status.success(), "the program was not built: {}", String::from_utf8_lossy(&stdout));
+    repository.join("target/bin/axcut")
+});
 
 /// What the program writes for an input.
-fn printed(program: &Path, input: &[u8]) -> String {
-    let mut child = Command::new(program)
+fn printed(input: &[u8]) -> String {
+    let mut child = Command::new(PROGRAM.as_path())
         .stdin(Stdio::piped())
         .stdout(Stdio::piped())
         .spawn()
@@ -61,48 +61,44 @@ fn lines(input: &[u8]) -> String {
 
 #[test]
 fn image_a_gives_exactly_its_two_lines() {
-    assert_eq!(printed(&program(), &A), "0 23\n40 2 0 7\n");
+    assert_eq!(printed(&A), "0 23\n40 2 0 7\n");
 }
 
 #[test]
 fn a_refused_image_gets_both_lines() {
-    let program = program();
-    assert_eq!(printed(&program, &[]), "1 0\n1 0 0 0\n");
+    assert_eq!(printed(&[]), "1 0\n1 0 0 0\n");
     let mut image = A.to_vec();
     image[9] = 7;
-    assert_eq!(printed(&program, &image), "6 9\n6 0 0 0\n");
-    assert_eq!(printed(&program, &B), "0 35\n20 0 0 0\n");
-    assert_eq!(printed(&program, &C), "0 28\n20 0 0 0\n");
+    assert_eq!(printed(&image), "6 9\n6 0 0 0\n");
+    assert_eq!(printed(&B), "0 35\n20 0 0 0\n");
+    assert_eq!(printed(&C), "0 28\n20 0 0 0\n");
 }
 
 #[test]
 fn an_input_that_is_too_long_is_1_at_0() {
-    let program = program();
     for size in [MOST_INPUT - 1, MOST_INPUT, MOST_INPUT + 1, 100_000] {
         let input = vec![1; size];
-        assert_eq!(printed(&program, &input), lines(&input), "{size} bytes");
+        assert_eq!(printed(&input), lines(&input), "{size} bytes");
     }
-    assert_eq!(printed(&program, &vec![1; MOST_INPUT]), "1 0\n1 0 0 0\n");
+    assert_eq!(printed(&vec![1; MOST_INPUT]), "1 0\n1 0 0 0\n");
 }
 
 #[test]
 fn every_image_made_by_hand_gets_its_lines() {
-    let program = program();
     for case in hand_made() {
-        assert_eq!(printed(&program, &case.image), lines(&case.image), "{:?}", case.image);
+        assert_eq!(printed(&case.image), lines(&case.image), "{:?}", case.image);
     }
 }
 
 #[test]
 fn generated_and_damaged_images_get_their_lines() {
-    let program = program();
     let mut random = Random::new(SEED);
     for profile in Profile::ALL {
         for seed in SEED..SEED + 20 {
             let image = assemble(&generate::program(seed, profile)).expect("generated");
-            assert_eq!(printed(&program, &image), lines(&image), "{image:?}");
+            assert_eq!(printed(&image), lines(&image), "{image:?}");
             let damaged = damaged(&image, &mut random);
-            assert_eq!(printed(&program, &damaged), lines(&damaged), "{damaged:?}");
+            assert_eq!(printed(&damaged), lines(&damaged), "{damaged:?}");
         }
     }
 }

@@ -1,12 +1,19 @@
 //! README.md, "A Rust host": its code is the example, and what it shows of the example and of the
 //! program is what they print.
 
+#[path = "../../second/tests/common/mod.rs"]
+mod common;
 mod shown;
 
 #[path = "../examples/host.rs"]
 #[allow(dead_code)] // the example's main is not called
 mod host;
 
+use std::fs;
+use std::path::{Path, PathBuf};
+
+use common::image_of;
+use second::terms::{Statement, Type};
 use shown::{commands, readme, repository};
 
 /// The example's file, as README.md names it around the code.
@@ -30,7 +37,7 @@ fn path(file: &str) -> String {
 
 /// The two lines of document 01's program, by the proved check and run.
 fn program_prints(file: &str) -> String {
-    let image = std::fs::read(path(file)).expect("a shipped image");
+    let image = fs::read(path(file)).expect("a shipped image");
     let verdict = axcut::check(&image);
     let answer = axcut::run(&image, &[], second::PROGRAM_FUEL, &mut [0; second::PROGRAM_WORDS]);
     let axcut::Answer { number, steps, words, value } = answer;
@@ -90,8 +97,35 @@ fn the_host_keeps_where_there_is_no_answer() {
     assert_eq!(host_says(wrong, 740, 0), "keep, no answer: refused, 9 at 47");
     // A takes no arguments, and B exits with its second one.
     let [a, b] = ["images/a.axcut", "images/b.axcut"];
-    assert_eq!(host_says(a, 740, 700), "keep, no answer: the run gave 20, value 0");
-    assert_eq!(host_says(b, 740, 700), "keep, no answer: the run gave 40, value 700");
+    assert_eq!(host_says(a, 740, 700), "keep, no answer: the run is refused, 20");
+    assert_eq!(host_says(b, 740, 700), "keep, no answer: exit with 700");
+}
+
+#[test]
+fn the_host_keeps_where_fuel_or_room_is_spent() {
+    let (rounds, fills) = (file_of("rounds.axcut", &rounds()), file_of("fills.axcut", &fills()));
+    let says = |image: &Path| host_says(image.to_str().expect("a plain path"), 740, 700);
+    assert_eq!(says(&rounds), "keep, no answer: fuel spent");
+    assert_eq!(says(&fills), "keep, no answer: room spent");
+    [rounds, fills].iter().for_each(|file| fs::remove_file(file).expect("removed"));
+}
+
+/// A rule that goes round for ever.
+fn rounds() -> Vec<u8> {
+    image_of(&[], &[(vec![Type::Ext; 2], Statement::jump(0))])
+}
+
+/// A rule that stores its date again and again.
+fn fills() -> Vec<u8> {
+    let again = Statement::let_(0, 0, Statement::substitute(&[0, 0], Statement::jump(0)));
+    image_of(&[vec![vec![Type::Ext]]], &[(vec![Type::Ext; 2], again)])
+}
+
+/// A file of its own with these bytes.
+fn file_of(name: &str, bytes: &[u8]) -> PathBuf {
+    let path = Path::new(env!("CARGO_TARGET_TMPDIR")).join(name);
+    fs::write(&path, bytes).expect("written");
+    path
 }
 
 #[test]

@@ -4,11 +4,11 @@
 #[path = "../../second/tests/common/mod.rs"]
 mod common;
 
-use common::{accepted, image_of, nested, with_bytes, A, B, C};
+use common::{image_of, nested, with_bytes, A, B, C};
 use second::terms::{Statement, Type};
 
 /// Number and offset of the proved check's verdict.
-fn verdict(image: &[u8]) -> (u8, u32) {
+fn verdict(image: &[u8]) -> (u8, usize) {
     let axcut::Verdict { number, offset } = axcut::check(image);
     (number, offset)
 }
@@ -99,20 +99,20 @@ fn c_with_byte_18_as_02_is_8_at_26() {
 #[test]
 fn width_32_is_accepted() {
     let image = image_of(&[], &[(vec![Type::Ext; 31], Statement::lit(8, Statement::exit(31)))]);
-    assert_eq!(verdict(&image), accepted(&image));
+    assert_eq!(verdict(&image), (0, image.len()));
 }
 
 /// The literal's 10 bytes stand before the clause, and the clause's 5 at the image's end.
 #[test]
 fn width_33_is_5_at_the_clause() {
     let image = image_of(&[], &[(vec![Type::Ext; 32], Statement::lit(8, Statement::exit(31)))]);
-    assert_eq!(verdict(&image), (5, image.len() as u32 - 5));
+    assert_eq!(verdict(&image), (5, image.len() - 5));
 }
 
 #[test]
 fn depth_48_is_accepted() {
     let image = image_of(&[], &[(vec![Type::Ext], nested(48, Statement::exit(0)))]);
-    assert_eq!(verdict(&image), accepted(&image));
+    assert_eq!(verdict(&image), (0, image.len()));
 }
 
 /// Each ifz puts its first clause (5 bytes) and its own 5 before the second clause's statement.

@@ -1,5 +1,6 @@
 //! The proved run against the second opinion, on the same runs every time: the answer, and every
-//! word of the table after it.
+//! word of the table after it. It is held to the machine on words, which steps over bytes as the
+//! proved one does, and to the machine on trees, which knows terms only.
 
 #[path = "../../second/tests/common/mod.rs"]
 mod common;
@@ -51,7 +52,7 @@ impl Comparison {
         Self { met: BTreeMap::new(), proved: before.clone(), second: before.clone(), before }
     }
 
-    /// Compares the two opinions on a run with a table of so many words, and counts it.
+    /// Compares the opinions on a run with a table of so many words, and counts it.
     fn run(&mut self, image: &[u8], args: &[u64], fuel: u32, words: usize) {
         let seen = words + GUARD;
         let (proved, second) = (&mut self.proved[..seen], &mut self.second[..seen]);
@@ -62,6 +63,9 @@ impl Comparison {
         let what = || format!("args {args:?}, fuel {fuel}, {words} words, image {image:?}");
         assert_eq!(answer, expected, "proved and second on {}", what());
         assert!(proved == second, "the tables of proved and second on {}", what());
+        let trees = second::run_on_trees(image, args, fuel, words);
+        assert_eq!(answer, of_second(trees.answer), "proved and trees on {}", what());
+        assert!(proved[..trees.stored.len()] == trees.stored, "the words of trees on {}", what());
         let stored = answer.words as usize;
         assert!(proved[stored..] == self.before[stored..seen], "words past those of {}", what());
         *self.met.entry(answer.number).or_default() += 1;

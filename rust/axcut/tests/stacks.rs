@@ -14,17 +14,17 @@ use second::terms::{Statement, Straight, Type};
 type Fields = (u8, u32, u32, u64);
 
 /// The proved check's verdict, given on a small stack.
-fn verdict_on_small_stack(image: &[u8]) -> (u8, u32) {
+fn verdict_on_small_stack(image: &[u8]) -> axcut::Verdict {
     let image = image.to_vec();
-    let axcut::Verdict { number, offset } = on_small_stack(move || axcut::check(&image));
-    (number, offset)
+    on_small_stack(move || axcut::check(&image))
 }
 
 /// Both opinions agree, and give this number.
 fn assert_number(image: &[u8], number: u8) {
     let verdict = verdict_on_small_stack(image);
-    assert_eq!(verdict, common::verdict(image));
-    assert_eq!(verdict.0, number);
+    let second = second::check(image);
+    assert_eq!((verdict.number, verdict.offset), (second.number, second.offset as usize));
+    assert_eq!(verdict.number, number);
 }
 
 /// The proved run's answer, given on a small stack, and the table after it. The table is not on

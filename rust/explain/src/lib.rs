@@ -36,7 +36,7 @@ impl Default for Given {
 pub fn explain(name: &str, image: &[u8], given: &Given) -> String {
     let verdict = axcut::check(image);
     let checked = text::of_check(name, image, verdict);
-    if verdict.number != meaning::ACCEPTED {
+    if !verdict.is_accepted() {
         return checked;
     }
     let mut table = vec![0; usize::from(given.words)];

@@ -1,8 +1,8 @@
 //! The text on a verdict of the check, and on an answer of the run.
 
-use axcut::{Answer, Verdict};
+use axcut::{Answer, Ending, Verdict};
 
-use crate::meaning::{meaning, place, ACCEPTED, EXIT, FUEL_SPENT, ROOM_SPENT};
+use crate::meaning::{meaning, meaning_at, place};
 use crate::window::window;
 use crate::Given;
 
@@ -10,16 +10,18 @@ use crate::Given;
 pub const MOST_BYTES: usize = 16_384;
 /// Most words that are printed, and not only counted.
 const FEW_WORDS: usize = 16;
+/// What is said of a number that is none of document 01's.
+const NO_MEANING: &str = "a number that document 01 does not have";
 
 /// What the check says of an image of this name.
 pub fn of_check(name: &str, image: &[u8], verdict: Verdict) -> String {
     let Verdict { number, offset } = verdict;
     let size = size(image);
-    if number == ACCEPTED {
+    if verdict.is_accepted() {
         return format!("{name} has {size}.\nThe check accepts it: {number} at {offset}.\n");
     }
-    let means = meaning_or_not(number);
-    let window = window(image, offset as usize, place(number).unwrap_or("here"));
+    let means = meaning_at(number, offset).unwrap_or(NO_MEANING);
+    let window = window(image, offset, place(number, offset).unwrap_or("here"));
     format!(
         "{name} has {size}.\n\
          The check refuses it: {number} at {offset}, {means}.\n\
@@ -42,17 +44,18 @@ pub fn of_run(given: &Given, answer: Answer, table: &[u64]) -> String {
 
 /// The sentence on how a run ended, or why it was refused.
 pub fn ending(answer: Answer) -> String {
-    let Answer { number, value, .. } = answer;
-    let means = meaning_or_not(number);
-    let steps = counted(answer.steps.into(), "step");
-    match number {
-        EXIT => format!("It ends with {number}, {means}, after {steps}. Its value is {value}."),
-        FUEL_SPENT => format!("It ends with {number}, {means}, after {steps}. It has no value."),
-        ROOM_SPENT => format!(
-            "It ends with {number}, {means}, after {steps}. The next statement's block finds no \
-             room in the table, so that the statement is neither counted nor performed."
+    let number = answer.number;
+    let means = meaning(number).unwrap_or(NO_MEANING);
+    let ends =
+        format!("It ends with {number}, {means}, after {}.", counted(answer.steps.into(), "step"));
+    match answer.ending() {
+        Ending::Exit(value) => format!("{ends} Its value is {value}."),
+        Ending::FuelSpent => format!("{ends} It has no value."),
+        Ending::RoomSpent => format!(
+            "{ends} The next statement's block finds no room in the table, so that the statement \
+             is neither counted nor performed."
         ),
-        _ => format!("It is refused with {number}, {means}."),
+        Ending::Refused(_) => format!("It is refused with {number}, {means}."),
     }
 }
 
@@ -86,10 +89,6 @@ fn arguments(args: &[u64]) -> String {
     }
 }
 
-fn meaning_or_not(number: u8) -> &'static str {
-    meaning(number).unwrap_or("a number that document 01 does not have")
-}
-
 /// So many of them: `1 word`, `2 words`.
 fn counted(count: u64, one: &str) -> String {
     let plural = if count == 1 { "" } else { "s" };
@@ -106,7 +105,7 @@ mod tests {
     use super::*;
     use std::collections::BTreeSet;
 
-    fn refusal(number: u8, offset: u32) -> String {
+    fn refusal(number: u8, offset: usize) -> String {
         of_check("it.axcut", &[1, 0, 3, 0, 1, 0], Verdict { number, offset })
     }
 
@@ -166,9 +165,9 @@ mod tests {
     #[test]
     fn every_refusal_says_its_meaning_its_place_and_its_bytes() {
         for number in 1..=11 {
-            let text = refusal(number, 2);
-            assert!(text.contains(&format!("{number} at 2, {}.", meaning(number).unwrap())));
-            assert!(text.contains(&format!("^^ 2: {}\n", place(number).unwrap())));
+            let text = refusal(number, 1);
+            assert!(text.contains(&format!("{number} at 1, {}.", meaning_at(number, 1).unwrap())));
+            assert!(text.contains(&format!("^^ 1: {}\n", place(number, 1).unwrap())));
             assert!(text.contains("      0: 01 00 03 00 01 00\n"));
         }
     }
@@ -177,6 +176,32 @@ mod tests {
     fn refusals_are_told_apart() {
         let texts: BTreeSet<String> = (1..=11).map(|number| refusal(number, 2)).collect();
         assert_eq!(texts.len(), 11);
+    }
+
+    #[test]
+    fn a_wrong_size() {
+        let expected = concat!(
+            "it.axcut has 2 bytes.\n",
+            "The check refuses it: 1 at 0, fewer than 3 or more than 16,384 bytes.\n",
+            "      0: 01 00\n",
+            "         ^^ 0: the image's start\n",
+            "It is not run.\n"
+        );
+        let verdict = Verdict { number: 1, offset: 0 };
+        assert_eq!(of_check("it.axcut", &[1, 0], verdict), expected);
+    }
+
+    #[test]
+    fn a_wrong_length_field() {
+        let expected = concat!(
+            "it.axcut has 6 bytes.\n",
+            "The check refuses it: 1 at 1, wrong length field, which is not the number of bytes \
+             behind it.\n",
+            "      0: 01 00 03 00 01 00\n",
+            "            ^^ 1: the length field\n",
+            "It is not run.\n"
+        );
+        assert_eq!(refusal(1, 1), expected);
     }
 
     #[test]
@@ -218,7 +243,7 @@ mod tests {
         let sentences: BTreeSet<String> = numbers.iter().map(sentence).collect();
         assert_eq!(sentences.len(), numbers.len());
         let with_meaning = |number: &u8| {
-            sentence(number).contains(&format!("{number}, {}", meaning_or_not(*number)))
+            sentence(number).contains(&format!("{number}, {}", meaning(*number).unwrap()))
         };
         assert!(numbers.iter().all(with_meaning));
     }

@@ -131,9 +131,20 @@ fn an_empty_file_and_one_that_is_too_long() {
         let file = file_of(name, &vec![1; length]);
         let text = explained(file.to_str().expect("a plain path"));
         std::fs::remove_file(file).expect("removed");
-        assert!(text.contains("The check refuses it: 1 at 0, fewer than 3 or more than"), "{text}");
-        assert_eq!(text.contains("more than 16,384 bytes.\n"), length > 16_384, "{text}");
+        let refused = "The check refuses it: 1 at 0, fewer than 3 or more than 16,384 bytes.\n";
+        assert!(text.contains(refused), "{text}");
+        assert_eq!(text.contains(" has more than 16,384 bytes.\n"), length > 16_384, "{text}");
     }
+}
+
+#[test]
+fn a_file_that_was_cut_off_has_a_wrong_length_field() {
+    let image = include_bytes!("../../../images/a.axcut");
+    let file = file_of("cut-off.axcut", &image[..20]);
+    let text = explained(file.to_str().expect("a plain path"));
+    std::fs::remove_file(file).expect("removed");
+    assert!(text.contains("1 at 1, wrong length field, which is not the number"), "{text}");
+    assert!(text.contains("^^ 1: the length field\n"), "{text}");
 }
 
 #[test]

@@ -26,7 +26,7 @@ pub(crate) fn compare(input: &Input) -> Result<Answers, &'static str> {
     Coverage::start();
     let second::Verdict { number, offset } = second::check(image);
     let verdict = axcut::check(image);
-    if verdict != (axcut::Verdict { number, offset }) {
+    if verdict != (axcut::Verdict { number, offset: offset as usize }) {
         return Err("the checks differ");
     }
     let answer = axcut::run(image, args, *fuel, &mut for_proved[lent.clone()]);

@@ -54,7 +54,7 @@ fn class(count: u8) -> u8 {
 
 /// The numbers, the byte at the fault and the one before it, and how large steps and words are.
 fn kind(image: &[u8], Answers { verdict, answer }: &Answers) -> [u32; 6] {
-    let place = verdict.offset as usize;
+    let place = verdict.offset;
     let byte = |place: usize| image.get(place).map_or(u32::MAX, |&byte| u32::from(byte.min(8)));
     let size = |number: u32| u32::BITS - number.leading_zeros();
     let [number, end] = [verdict.number, answer.number].map(u32::from);

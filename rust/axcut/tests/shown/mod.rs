@@ -1,5 +1,5 @@
 //! What README.md shows: in its blocks of code, a line after `$ ` is a command, and the lines below
-//! it are what it prints.
+//! it are what it prints; and its tables, by their headings.
 
 #![allow(dead_code)] // each test file is a program of its own and uses only some of this
 
@@ -49,4 +49,23 @@ pub fn commands() -> Vec<Shown> {
         }
     }
     commands
+}
+
+/// The rows of the first table below a heading of README.md, as cells, without the table's head.
+pub fn table_below(heading: &str) -> Vec<Vec<String>> {
+    let readme = readme();
+    let mut lines = readme.lines().skip_while(|line| *line != heading);
+    let table = lines.by_ref().skip_while(|line| !line.starts_with('|'));
+    let rows = table.take_while(|line| line.starts_with('|')).skip(2);
+    rows.map(cells).collect()
+}
+
+fn cells(row: &str) -> Vec<String> {
+    let inside = row.trim_matches('|');
+    inside.split('|').map(|cell| cell.trim().to_string()).collect()
+}
+
+/// What stands between backquotes, in order.
+pub fn quoted(cell: &str) -> Vec<&str> {
+    cell.split('`').skip(1).step_by(2).collect()
 }

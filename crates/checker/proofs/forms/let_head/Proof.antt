@@ -70,6 +70,9 @@ add-t33 c = omega (arith, law.name-is _ _ _ _ (c .before .before .before .before
 add-t34 : tie.Need-add-t34
 add-t34 c = omega (arith, law.name-is _ _ _ _ (c .before .before .before .before .before .before .before .before .name2 .ensures) _ (c .before .before .before .before .before .before .m .given .1))
 
+add-t35 : tie.Need-add-t35
+add-t35 c = omega arith
+
 enum-known-n : tie.Need-enum-known-n
 enum-known-n c = search needs
 
@@ -110,6 +113,7 @@ let-head-spec =
     add-t32
     add-t33
     add-t34
+    add-t35
     enum-known-n
     enum-known-n-2
     returns-3
