@@ -122,16 +122,14 @@ module _ (image sigs labels s : List ℕ) (depth : ℕ) where
 
 -- ---- codes
 
+-- three and four are codes of forms with a remainder; a code that is neither, nor one, is not; and what is left of them but one and three is four
 pub goes-on : (code : ℕ) → 3 ≤ code → code ≤ 4 → GoesOn code
-goes-on code l h = go code l h
-  where
-    go : (code : ℕ) → 3 ≤ code → code ≤ 4 → GoesOn code
-    go (suc (suc (suc zero))) l h = lets refl
-    go (suc (suc (suc (suc zero)))) l h = news refl
-    go zero l h = absurd (omega arith)
-    go (suc zero) l h = absurd (omega arith)
-    go (suc (suc zero)) l h = absurd (omega arith)
-    go (suc (suc (suc (suc (suc n))))) l h = absurd (omega arith)
+goes-on zero l h = absurd (omega arith)
+goes-on (suc zero) l h = absurd (omega arith)
+goes-on (suc (suc zero)) l h = absurd (omega arith)
+goes-on (suc (suc (suc zero))) l h = lets refl
+goes-on (suc (suc (suc (suc zero)))) l h = news refl
+goes-on (suc (suc (suc (suc (suc n))))) l h = absurd (omega arith)
 
 pub goes-off : (code : ℕ) → (code ≡ 1 → ⊥) → (3 ≤ code → code ≤ 4 → ⊥) → GoesOn code → ⊥
 goes-off code m n (substitutes e) = m e
