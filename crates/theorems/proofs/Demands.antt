@@ -2,25 +2,35 @@
 use Prim.Native.Nat.{ℕ, _≤_, _<_}
 use mathlib.Core.Path.{_≡_}
 use mathlib.Core.Logic.{_↔_, _≢_}
-use mathlib.Core.List.{List, [], map}
-use lib.ListN.{length, getD}
-use Rattle.definitions.specs.Limits.{largestTable}
-use Rattle.definitions.specs.Terms.{prd, Program}
+use mathlib.Core.List.{List, [], _∷_, _++_, map}
+use lib.ListN.{length, getD, set, take, drop}
+use Rattle.definitions.specs.Limits.{version, largestTable}
+use Rattle.definitions.specs.Terms.{prd, Environment, Signature, Statement, Program}
 use Rattle.definitions.specs.Typing.{At, TypedProgram}
-use Rattle.definitions.specs.Layout.{Bytes, layout, Accepted}
-use Rattle.definitions.specs.Reader.{fault}
-use Rattle.definitions.specs.FirstFault.{firstFault}
-use Rattle.definitions.specs.Run.{stuck, Outcome, Reached, Ends}
+use Rattle.definitions.specs.Layout.{Bytes, named, layout, Accepted}
+use Rattle.definitions.specs.ClausePlaces.{ClausePlace, clausePlaces}
+use Rattle.definitions.specs.Reader.{Reader, fault, refused}
+use Rattle.definitions.specs.FirstFault.{clauses, program, envelope, readImage, firstFault}
+use Rattle.definitions.specs.Run.{goes, stuck, exited, noStep, Outcome, Reached, Ends}
 use Rattle.definitions.specs.Machine as Machine
 use Rattle.definitions.specs.Machine.{runTerms}
 use Rattle.definitions.specs.RawMachine as RawMachine
-use Rattle.definitions.specs.RawMachine.{Configuration, step}
-use Rattle.definitions.specs.Answer.{start, runTrees, answer, answerOf, refusal, AnswerNumber}
-use Rattle.definitions.specs.Words.{AllKept}
+use Rattle.definitions.specs.RawMachine.{Configuration, block, step}
+use Rattle.definitions.specs.Answer.{numberOf, valueOf, start, runTrees, answer, answerOf, refusal, Fitting, AnswerIs, AnswerNumber, line, printed}
+use Rattle.definitions.specs.Words.{AllKept, storedBy}
 use Rattle.definitions.specs.Together.{Same, Together}
+use Rattle.definitions.proofs.Images as Images
 use Rattle.definitions.proofs.Rows as Table
+use Rattle.definitions.proofs.Order as Order
+use Rattle.definitions.proofs.Stuck as Stuck
+use Rattle.definitions.proofs.Paper as Paper
+use Rattle.definitions.proofs.Printed as Printed
+use Rattle.definitions.proofs.ClauseRows as ClauseRows
 use Rattle.exactness.proofs.Exact as Exact
 use Rattle.exactness.proofs.Faults as Faults
+use Rattle.exactness.proofs.Bounds as Bounds
+use Rattle.exactness.proofs.ClausesLaid as ClausesLaid
+use Rattle.exactness.proofs.Accident as Accident
 use Rattle.lockstep.proofs.Environments as Environments
 use Rattle.lockstep.proofs.Whole as Whole
 use Rattle.lockstep.proofs.Answers as Answers
@@ -32,6 +42,43 @@ rows = Table.rows-hold
 -- "The others": widths, depths, fuel, tables, each operation, each kind of word, and what students hand in.
 further-rows : map Table.computed Table.further ≡ Table.further
 further-rows = Table.further-hold
+
+-- "The check .. reads front to back and stops at the first failing test": each sentence on the order and the places of tests, and each limit on both sides.
+order-of-tests : map Table.computed Order.order ≡ Order.order
+order-of-tests = Order.order-hold
+
+-- "The program writes exactly: 0 23, 40 2 0 7", for a run with fuel 100,000,
+program-prints-A : printed Images.A ≡ 0x30 ∷ 0x20 ∷ 0x32 ∷ 0x33 ∷ 0x0A ∷ 0x34 ∷ 0x30 ∷ 0x20 ∷ 0x32 ∷ 0x20 ∷ 0x30 ∷ 0x20 ∷ 0x37 ∷ 0x0A ∷ []
+program-prints-A = Table.A-printed
+
+program-has-fuel : printed Printed.round ≡ line (0 ∷ 10 ∷ []) ++ line (41 ∷ 100000 ∷ 0 ∷ 0 ∷ [])
+program-has-fuel = Printed.fuel-printed
+
+-- and 1,024 words.
+program-has-room : printed Printed.full ≡ line (0 ∷ 1251 ∷ []) ++ line (42 ∷ 66 ∷ 1024 ∷ 0 ∷ [])
+program-has-room = Printed.room-printed
+
+-- "it is stuck where bytes give no statement, an entry is missing or of the wrong kind, or no clause answers": images that are not accepted, and after how many steps the machine has no next one;
+stuck-rows : map Stuck.computed Stuck.stuck-rows ≡ Stuck.stuck-rows
+stuck-rows = Stuck.stuck-hold
+
+-- and no code from 7 on, in whatever image and configuration;
+unknown-code-stuck : (image : List ℕ) (c : Configuration) (code : ℕ) (xs : List ℕ) → 7 ≤ code → drop (c .at) image ≡ code ∷ xs → step image c ≡ stuck
+unknown-code-stuck = Stuck.unknown-code
+
+-- the same of the paper's machine, on programs that typing does not allow, and what it does on programs that it allows;
+paper-stuck-rows : map Paper.computed Paper.stuck-rows ≡ Paper.stuck-rows
+paper-stuck-rows = Paper.stuck-hold
+
+paper-rows : map Paper.computed Paper.steps-rows ≡ Paper.steps-rows
+paper-rows = Paper.steps-hold
+
+-- a clause answers by its symbol and never by its place; let takes entries of its parameters' kinds.
+by-symbol : runTrees (set (set Images.B 23 1) 29 0) (5 ∷ 9 ∷ []) 3 2 .how ≡ exited 5
+by-symbol = Table.by-symbol
+
+by-kind : runTrees Table.unordered (5 ∷ []) 3 2 .how ≡ noStep
+by-kind = Table.by-kind
 
 -- Demand 2: an image is accepted exactly when its first fault is 0 at its length,
 demand-2-accepted : (image : List ℕ) → Bytes image → Accepted image ↔ (firstFault image ≡ fault 0 (length image))
@@ -52,13 +99,43 @@ demand-1-place = Faults.offset-inside
 one-reading : (p q : Program) → TypedProgram p → TypedProgram q → layout p ≡ layout q → p ≡ q
 one-reading = Exact.one-reading
 
+-- The bound with which statements are read is no limit: from the image's length on, any bound gives the same reading.
+any-bound : (image : List ℕ) (k : ℕ) → length image ≤ k → envelope version (length image) (program k) 0 image ≡ readImage image
+any-bound = Bounds.any-bound
+
+-- `clausePlaces` lists every clause of every `new` and `switch`, and says where its symbol byte stands, in the bytes of whatever program, typed or not;
+clause-symbol-laid : (p : Program) (n : ℕ) (c : ClausePlace) → At (clausePlaces p) n c → At (layout p) (c .offset) (c .symbol)
+clause-symbol-laid = ClausesLaid.symbol-laid
+
+-- it is computed for clauses in clauses, each pair in the wrong order;
+clause-places-row : clausePlaces ClauseRows.woven ≡ ClauseRows.woven-places
+clause-places-row = ClauseRows.woven-clauses
+
+-- The accident was a runner that took a clause by its place and never read its symbol byte. In an accepted image the clause at place i of every `new` and every `switch` has symbol i,
+clauses-in-order : {image : List ℕ} (a : Accepted image) (n : ℕ) (c : ClausePlace) → At (clausePlaces (a .program)) n c → c .symbol ≡ c .place
+clauses-in-order = Accident.in-order
+
+-- which is the image's byte at the clause's offset;
+clause-symbol-byte : {image : List ℕ} (a : Accepted image) (n : ℕ) (c : ClausePlace) → At (clausePlaces (a .program)) n c → At image (c .offset) (c .symbol)
+clause-symbol-byte = Accident.symbol-byte
+
+-- and an image as long, with the same bytes before that offset and another symbol at it, is refused with 9 at that byte, whatever stands behind it.
+another-symbol-refused : {image : List ℕ} (a : Accepted image) (n : ℕ) (c : ClausePlace) → At (clausePlaces (a .program)) n c
+    → (other : List ℕ) → length other ≡ length image → take (c .offset) other ≡ take (c .offset) image → (b : ℕ) → At other (c .offset) b → b ≢ c .place → firstFault other ≡ fault 9 (c .offset)
+another-symbol-refused = Accident.another-symbol
+
+-- The same of any reading of clauses, of whatever image: where the next clause of a `new` or a `switch` is that of symbol i, another symbol byte is refused with 9 at that byte.
+clause-symbol-refused : (Σ : List Signature) (Θ : List Environment) (statement : ℕ → Environment → Reader Statement) (d : ℕ) (before behind : Environment) (i : ℕ) (ps : Environment) (S : Signature) (at b : ℕ) (xs : List ℕ)
+    → b ≢ i → clauses Σ Θ statement named d before behind i (ps ∷ S) at (b ∷ xs) ≡ refused (fault 9 at)
+clause-symbol-refused = Accident.clause-symbol
+
+-- Demand 1 in one: whatever the input, the answer is a refusal of the image, of the arguments or of the table, which gives its number and leaves the table as it was, or it is the run's; and which of them is told by the demand's own words.
+demand-1-answered : (image args : List ℕ) (fuel : ℕ) (table : List ℕ) → Bytes image → AnswerIs image args fuel table (answer image args fuel table)
+demand-1-answered = Answers.answered
+
 -- Demand 1: a run of a refused image gets the check's number, and the table is not touched.
 demand-1-image : (image args : List ℕ) (fuel : ℕ) (table : List ℕ) → Bytes image → (Accepted image → ⊥) → answer image args fuel table ≡ refusal (firstFault image .number) table
 demand-1-image = Answers.image-refused
-
--- Demand 3, "as many arguments as label 0 names".
-abbrev Fitting : {image : List ℕ} → Accepted image → List ℕ → Type 0
-Fitting a args = length args ≡ length (getD (a .program .labels) 0 [])
 
 -- Demand 1: then 20, and the table is not touched.
 demand-1-arguments : {image : List ℕ} (a : Accepted image) (args : List ℕ) (fuel : ℕ) (table : List ℕ) → (Fitting a args → ⊥) → answer image args fuel table ≡ refusal 20 table
@@ -76,6 +153,11 @@ no-value-without-symbols {image} a t e v w = Environments.no-producer image (a .
 abbrev words : Configuration → ℕ
 words c = length (c .stored)
 
+-- Demand 2, "the words that the layout makes of its steps": a step stores exactly the block of its statement's fields or captures, directly behind the words stored before.
+demand-2-stores : {image : List ℕ} (a : Accepted image) (c c′ : Configuration) (k : Machine.Configuration) → Together image (a .program .signatures) (a .program .labels) c k → step image c ≡ goes c′
+    → c′ .stored ≡ c .stored ++ block (storedBy (a .program .signatures) (k .statement) (c .environment))
+demand-2-stores a c c′ k = Whole.stores a
+
 module _ {image : List ℕ} (a : Accepted image) (args : List ℕ) (l : Fitting a args) where
   -- Demand 1: then 21, and the table is not touched.
   demand-1-table : (fuel : ℕ) (table : List ℕ) → largestTable < length table → answer image args fuel table ≡ refusal 21 table
@@ -87,6 +169,13 @@ module _ {image : List ℕ} (a : Accepted image) (args : List ℕ) (l : Fitting 
 
   demand-2-table : (fuel : ℕ) (table : List ℕ) → length (answerOf (runTrees image args fuel (length table)) table .table) ≡ length table
   demand-2-table = Answers.same-length a args (Whole.fitting a args l)
+
+  -- Demand 2, its second half in one: the answer's number, steps, words and value are what the paper's abstract machine alone gives on the image's program, under that fuel and table.
+  demand-2-run : (fuel : ℕ) (table : List ℕ) → length table ≤ largestTable → (answer image args fuel table .number ≡ numberOf (runTerms (a .program) args fuel (length table) .how))
+      × (answer image args fuel table .steps ≡ runTerms (a .program) args fuel (length table) .steps)
+      × (answer image args fuel table .words ≡ runTerms (a .program) args fuel (length table) .final .words)
+      × (answer image args fuel table .value ≡ valueOf (runTerms (a .program) args fuel (length table) .how))
+  demand-2-run = Answers.paper-answer a args (Whole.fitting a args l)
 
   -- Demand 2: that run's ending with its value, its steps, and how many words it stores, are those of the paper's abstract machine on the image's program,
   demand-2-machine : (fuel size : ℕ) → (runTrees image args fuel size .how ≡ runTerms (a .program) args fuel size .how)
@@ -102,6 +191,10 @@ module _ {image : List ℕ} (a : Accepted image) (args : List ℕ) (l : Fitting 
   -- Demand 2, "the words that the layout makes of its steps": the words stored so far hold the tree of every value of the environment, block by block, each at the position that a value's own words name.
   demand-2-words : (size n : ℕ) (c : Configuration) → Reached (step image) words size (start image args) n c → AllKept (c .stored) (c .environment)
   demand-2-words = Whole.stored a args (Whole.fitting a args l)
+
+  -- What is stored stays, whether its value is dropped or not: the words stored later stand behind it.
+  demand-2-stays : (size n m : ℕ) (c c′ : Configuration) → Reached (step image) words size (start image args) n c → Reached (step image) words size c m c′ → (later : List ℕ) × (c′ .stored ≡ c .stored ++ later)
+  demand-2-stays = Whole.stays a args (Whole.fitting a args l)
 
   -- Demand 3: every configuration that the machine reaches has a next step.
   demand-3-next : (size n : ℕ) (c : Configuration) → Reached (step image) words size (start image args) n c → step image c ≢ stuck
