@@ -14,3 +14,5 @@ pub mod FormLaws
 pub mod AfterLaws
 pub mod RunLaws
 pub mod AcceptedLaws
+mod Cut
+mod Part

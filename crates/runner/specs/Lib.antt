@@ -3,3 +3,4 @@ pub mod Head
 pub mod Running
 pub mod Extern
 pub mod Shown
+pub mod Lent
