@@ -35,6 +35,141 @@ use Rattle.lockstep.proofs.Environments as Environments
 use Rattle.lockstep.proofs.Whole as Whole
 use Rattle.lockstep.proofs.Answers as Answers
 
+-- ---- demand 1: every input is answered
+
+-- Demand 1 in one: whatever the input, the answer is a refusal of the image, of the arguments or of the table, which gives its number and leaves the table as it was, or it is the run's; and which of them is told by the demand's own words.
+demand-1-answered : (image args : List ℕ) (fuel : ℕ) (table : List ℕ) → Bytes image → AnswerIs image args fuel table (answer image args fuel table)
+demand-1-answered = Answers.answered
+
+-- So a run of a refused image gets the check's number, and the table is not touched;
+demand-1-image : (image args : List ℕ) (fuel : ℕ) (table : List ℕ) → Bytes image → (Accepted image → ⊥) → answer image args fuel table ≡ refusal (firstFault image .number) table
+demand-1-image = Answers.image-refused
+
+-- then 20, and the table is not touched;
+demand-1-arguments : {image : List ℕ} (a : Accepted image) (args : List ℕ) (fuel : ℕ) (table : List ℕ) → (Fitting a args → ⊥) → answer image args fuel table ≡ refusal 20 table
+demand-1-arguments a args fuel table l = Answers.arguments-refused a args fuel table (Whole.not-fitting a args l)
+
+-- then 21, and the table is not touched.
+demand-1-table : {image : List ℕ} (a : Accepted image) (args : List ℕ) → Fitting a args → (fuel : ℕ) (table : List ℕ) → largestTable < length table → answer image args fuel table ≡ refusal 21 table
+demand-1-table a args l fuel table = Answers.table-refused a args fuel table (Whole.fitting a args l)
+
+-- A refused image gets a number of the refusal table,
+demand-1-number : (image : List ℕ) → Bytes image → (Accepted image → ⊥) → (1 ≤ firstFault image .number) × (firstFault image .number ≤ 11)
+demand-1-number = Exact.number-refused
+
+-- and a place inside the image: its offset is at most the image's length, whatever the bytes.
+demand-1-place : (image : List ℕ) → firstFault image .offset ≤ length image
+demand-1-place = Faults.offset-inside
+
+-- ---- demand 2, its first half: what is accepted
+
+-- An image is accepted exactly when its first fault is 0 at its length,
+demand-2-accepted : (image : List ℕ) → Bytes image → Accepted image ↔ (firstFault image ≡ fault 0 (length image))
+demand-2-accepted image b = (Exact.accepted-faultless, λ e. Exact.faultless-accepted image b (rw e))
+
+-- and exactly when its number is 0.
+demand-2-number : (image : List ℕ) → Bytes image → Accepted image ↔ (firstFault image .number ≡ 0)
+demand-2-number image b = (λ a. rw (Exact.accepted-faultless a), Exact.faultless-accepted image b)
+
+-- One reading: so "the program of an accepted image" makes sense.
+one-reading : (p q : Program) → TypedProgram p → TypedProgram q → layout p ≡ layout q → p ≡ q
+one-reading = Exact.one-reading
+
+-- The bound with which statements are read is no limit: from the image's length on, any bound gives the same reading.
+any-bound : (image : List ℕ) (k : ℕ) → length image ≤ k → envelope version (length image) (program k) 0 image ≡ readImage image
+any-bound = Bounds.any-bound
+
+-- Document 01, "A signature without symbols is lawful: .. no value of it can be built": no value, reached or not, is a producer of it.
+no-value-without-symbols : {image : List ℕ} (a : Accepted image) (t : ℕ) → At (a .program .signatures) t [] → (v : RawMachine.Value) (w : Machine.Value) → Same image (a .program .signatures) (a .program .labels) v w (prd t) → ⊥
+no-value-without-symbols {image} a t e v w = Environments.no-producer image (a .program .signatures) (a .program .labels) e
+
+-- ---- demand 2, its second half, and demand 3: what a run gives
+
+-- How many words a configuration has stored
+abbrev words : Configuration → ℕ
+words c = length (c .stored)
+
+module _ {image : List ℕ} (a : Accepted image) (args : List ℕ) (l : Fitting a args) where
+  -- Demand 2, its second half in one: the answer's number, steps, words and value are what the paper's abstract machine alone gives on the image's program, under that fuel and table.
+  demand-2-run : (fuel : ℕ) (table : List ℕ) → length table ≤ largestTable → (answer image args fuel table .number ≡ numberOf (runTerms (a .program) args fuel (length table) .how))
+      × (answer image args fuel table .steps ≡ runTerms (a .program) args fuel (length table) .steps)
+      × (answer image args fuel table .words ≡ runTerms (a .program) args fuel (length table) .final .words)
+      × (answer image args fuel table .value ≡ valueOf (runTerms (a .program) args fuel (length table) .how))
+  demand-2-run = Answers.paper-answer a args (Whole.fitting a args l)
+
+  -- And the table: the answer is that of the run on trees, its ending's number and value, its steps and words, and its words at the front of the table, which keeps its length.
+  demand-2-answer : (fuel : ℕ) (table : List ℕ) → length table ≤ largestTable → answer image args fuel table ≡ answerOf (runTrees image args fuel (length table)) table
+  demand-2-answer = Answers.accepted-answer a args (Whole.fitting a args l)
+
+  demand-2-table : (fuel : ℕ) (table : List ℕ) → length (answerOf (runTrees image args fuel (length table)) table .table) ≡ length table
+  demand-2-table = Answers.same-length a args (Whole.fitting a args l)
+
+  -- The ending of the run on trees with its value, its steps, and how many words it stores, are those of the paper's abstract machine on the image's program,
+  demand-2-machine : (fuel size : ℕ) → (runTrees image args fuel size .how ≡ runTerms (a .program) args fuel size .how)
+      × (runTrees image args fuel size .steps ≡ runTerms (a .program) args fuel size .steps)
+      × (words (runTrees image args fuel size .final) ≡ runTerms (a .program) args fuel size .final .words)
+  demand-2-machine = Whole.same a args (Whole.fitting a args l)
+
+  -- and whatever it reaches stands for what the paper's machine reaches after as many steps: the same statement, and the same values, of which a raw one also knows its block's position.
+  demand-2-reached : (size n : ℕ) (c : Configuration) → Reached (step image) words size (start image args) n c
+      → (k : Machine.Configuration) × Reached (Machine.step (a .program)) (λ k. k .words) size (Machine.start (a .program) args) n k × Together image (a .program .signatures) (a .program .labels) c k
+  demand-2-reached = Whole.reached a args (Whole.fitting a args l)
+
+  -- Demand 2, "the words that the layout makes of its steps": the words stored so far hold the tree of every value of the environment, block by block, each at the position that a value's own words name.
+  demand-2-words : (size n : ℕ) (c : Configuration) → Reached (step image) words size (start image args) n c → AllKept (c .stored) (c .environment)
+  demand-2-words = Whole.stored a args (Whole.fitting a args l)
+
+  -- What is stored stays, whether its value is dropped or not: the words stored later stand behind it.
+  demand-2-stays : (size n m : ℕ) (c c′ : Configuration) → Reached (step image) words size (start image args) n c → Reached (step image) words size c m c′ → (later : List ℕ) × (c′ .stored ≡ c .stored ++ later)
+  demand-2-stays = Whole.stays a args (Whole.fitting a args l)
+
+  -- Demand 3: every configuration that the machine reaches has a next step.
+  demand-3-next : (size n : ℕ) (c : Configuration) → Reached (step image) words size (start image args) n c → step image c ≢ stuck
+  demand-3-next = Whole.never a args (Whole.fitting a args l)
+
+  -- Demand 3: it ends only by exit, by fuel spent, or by room spent, the last exactly when document 01 says.
+  demand-3-ends : (fuel size : ℕ) (o : Outcome Configuration) → (runTrees image args fuel size ≡ o) ↔ Ends (step image) words size (start image args) fuel o
+  demand-3-ends = Whole.ends-exactly a args (Whole.fitting a args l)
+
+-- Demand 2, "the words that the layout makes of its steps": a step stores exactly the block of its statement's fields or captures, directly behind the words stored before.
+demand-2-stores : {image : List ℕ} (a : Accepted image) (c c′ : Configuration) (k : Machine.Configuration) → Together image (a .program .signatures) (a .program .labels) c k → step image c ≡ goes c′
+    → c′ .stored ≡ c .stored ++ block (storedBy (a .program .signatures) (k .statement) (c .environment))
+demand-2-stores a c c′ k = Whole.stores a
+
+-- Demands 1 and 3: whatever the input, an answer's number is a refusal's, 40, 41 or 42.
+demand-3-number : (image args : List ℕ) (fuel : ℕ) (table : List ℕ) → Bytes image → AnswerNumber (answer image args fuel table .number)
+demand-3-number = Answers.answer-number
+
+-- ---- the accident: a clause taken by its place
+
+-- `clausePlaces` lists every clause of every `new` and `switch`, and says where its symbol byte stands, in the bytes of whatever program, typed or not;
+clause-symbol-laid : (p : Program) (n : ℕ) (c : ClausePlace) → At (clausePlaces p) n c → At (layout p) (c .offset) (c .symbol)
+clause-symbol-laid = ClausesLaid.symbol-laid
+
+-- it is computed for clauses in clauses, each pair in the wrong order;
+clause-places-row : clausePlaces ClauseRows.woven ≡ ClauseRows.woven-places
+clause-places-row = ClauseRows.woven-clauses
+
+-- The accident was a runner that took a clause by its place and never read its symbol byte. In an accepted image the clause at place i of every `new` and every `switch` has symbol i,
+clauses-in-order : {image : List ℕ} (a : Accepted image) (n : ℕ) (c : ClausePlace) → At (clausePlaces (a .program)) n c → c .symbol ≡ c .place
+clauses-in-order = Accident.in-order
+
+-- which is the image's byte at the clause's offset;
+clause-symbol-byte : {image : List ℕ} (a : Accepted image) (n : ℕ) (c : ClausePlace) → At (clausePlaces (a .program)) n c → At image (c .offset) (c .symbol)
+clause-symbol-byte = Accident.symbol-byte
+
+-- and an image as long, with the same bytes before that offset and another symbol at it, is refused with 9 at that byte, whatever stands behind it.
+another-symbol-refused : {image : List ℕ} (a : Accepted image) (n : ℕ) (c : ClausePlace) → At (clausePlaces (a .program)) n c
+    → (other : List ℕ) → length other ≡ length image → take (c .offset) other ≡ take (c .offset) image → (b : ℕ) → At other (c .offset) b → b ≢ c .place → firstFault other ≡ fault 9 (c .offset)
+another-symbol-refused = Accident.another-symbol
+
+-- The same of any reading of clauses, of whatever image: where the next clause of a `new` or a `switch` is that of symbol i, another symbol byte is refused with 9 at that byte.
+clause-symbol-refused : (Σ : List Signature) (Θ : List Environment) (statement : ℕ → Environment → Reader Statement) (d : ℕ) (before behind : Environment) (i : ℕ) (ps : Environment) (S : Signature) (at b : ℕ) (xs : List ℕ)
+    → b ≢ i → clauses Σ Θ statement named d before behind i (ps ∷ S) at (b ∷ xs) ≡ refused (fault 9 at)
+clause-symbol-refused = Accident.clause-symbol
+
+-- ---- computed from the definitions
+
 -- Document 01, "Marked P: proved from the definitions, as a single table under one claim."
 rows : map Table.computed Table.rows ≡ Table.rows
 rows = Table.rows-hold
@@ -79,127 +214,3 @@ by-symbol = Table.by-symbol
 
 by-kind : runTrees Table.unordered (5 ∷ []) 3 2 .how ≡ noStep
 by-kind = Table.by-kind
-
--- Demand 2: an image is accepted exactly when its first fault is 0 at its length,
-demand-2-accepted : (image : List ℕ) → Bytes image → Accepted image ↔ (firstFault image ≡ fault 0 (length image))
-demand-2-accepted image b = (Exact.accepted-faultless, λ e. Exact.faultless-accepted image b (rw e))
-
--- and exactly when its number is 0; else the number is one of the refusal table's.
-demand-2-number : (image : List ℕ) → Bytes image → Accepted image ↔ (firstFault image .number ≡ 0)
-demand-2-number image b = (λ a. rw (Exact.accepted-faultless a), Exact.faultless-accepted image b)
-
-demand-1-number : (image : List ℕ) → Bytes image → (Accepted image → ⊥) → (1 ≤ firstFault image .number) × (firstFault image .number ≤ 11)
-demand-1-number = Exact.number-refused
-
--- Demand 1: the place is inside the image: its offset is at most the image's length, whatever the bytes.
-demand-1-place : (image : List ℕ) → firstFault image .offset ≤ length image
-demand-1-place = Faults.offset-inside
-
--- One reading: so "the program of an accepted image" makes sense.
-one-reading : (p q : Program) → TypedProgram p → TypedProgram q → layout p ≡ layout q → p ≡ q
-one-reading = Exact.one-reading
-
--- The bound with which statements are read is no limit: from the image's length on, any bound gives the same reading.
-any-bound : (image : List ℕ) (k : ℕ) → length image ≤ k → envelope version (length image) (program k) 0 image ≡ readImage image
-any-bound = Bounds.any-bound
-
--- `clausePlaces` lists every clause of every `new` and `switch`, and says where its symbol byte stands, in the bytes of whatever program, typed or not;
-clause-symbol-laid : (p : Program) (n : ℕ) (c : ClausePlace) → At (clausePlaces p) n c → At (layout p) (c .offset) (c .symbol)
-clause-symbol-laid = ClausesLaid.symbol-laid
-
--- it is computed for clauses in clauses, each pair in the wrong order;
-clause-places-row : clausePlaces ClauseRows.woven ≡ ClauseRows.woven-places
-clause-places-row = ClauseRows.woven-clauses
-
--- The accident was a runner that took a clause by its place and never read its symbol byte. In an accepted image the clause at place i of every `new` and every `switch` has symbol i,
-clauses-in-order : {image : List ℕ} (a : Accepted image) (n : ℕ) (c : ClausePlace) → At (clausePlaces (a .program)) n c → c .symbol ≡ c .place
-clauses-in-order = Accident.in-order
-
--- which is the image's byte at the clause's offset;
-clause-symbol-byte : {image : List ℕ} (a : Accepted image) (n : ℕ) (c : ClausePlace) → At (clausePlaces (a .program)) n c → At image (c .offset) (c .symbol)
-clause-symbol-byte = Accident.symbol-byte
-
--- and an image as long, with the same bytes before that offset and another symbol at it, is refused with 9 at that byte, whatever stands behind it.
-another-symbol-refused : {image : List ℕ} (a : Accepted image) (n : ℕ) (c : ClausePlace) → At (clausePlaces (a .program)) n c
-    → (other : List ℕ) → length other ≡ length image → take (c .offset) other ≡ take (c .offset) image → (b : ℕ) → At other (c .offset) b → b ≢ c .place → firstFault other ≡ fault 9 (c .offset)
-another-symbol-refused = Accident.another-symbol
-
--- The same of any reading of clauses, of whatever image: where the next clause of a `new` or a `switch` is that of symbol i, another symbol byte is refused with 9 at that byte.
-clause-symbol-refused : (Σ : List Signature) (Θ : List Environment) (statement : ℕ → Environment → Reader Statement) (d : ℕ) (before behind : Environment) (i : ℕ) (ps : Environment) (S : Signature) (at b : ℕ) (xs : List ℕ)
-    → b ≢ i → clauses Σ Θ statement named d before behind i (ps ∷ S) at (b ∷ xs) ≡ refused (fault 9 at)
-clause-symbol-refused = Accident.clause-symbol
-
--- Demand 1 in one: whatever the input, the answer is a refusal of the image, of the arguments or of the table, which gives its number and leaves the table as it was, or it is the run's; and which of them is told by the demand's own words.
-demand-1-answered : (image args : List ℕ) (fuel : ℕ) (table : List ℕ) → Bytes image → AnswerIs image args fuel table (answer image args fuel table)
-demand-1-answered = Answers.answered
-
--- Demand 1: a run of a refused image gets the check's number, and the table is not touched.
-demand-1-image : (image args : List ℕ) (fuel : ℕ) (table : List ℕ) → Bytes image → (Accepted image → ⊥) → answer image args fuel table ≡ refusal (firstFault image .number) table
-demand-1-image = Answers.image-refused
-
--- Demand 1: then 20, and the table is not touched.
-demand-1-arguments : {image : List ℕ} (a : Accepted image) (args : List ℕ) (fuel : ℕ) (table : List ℕ) → (Fitting a args → ⊥) → answer image args fuel table ≡ refusal 20 table
-demand-1-arguments a args fuel table l = Answers.arguments-refused a args fuel table (Whole.not-fitting a args l)
-
--- Demands 1 and 3: whatever the input, an answer's number is a refusal's, 40, 41 or 42.
-demand-3-number : (image args : List ℕ) (fuel : ℕ) (table : List ℕ) → Bytes image → AnswerNumber (answer image args fuel table .number)
-demand-3-number = Answers.answer-number
-
--- Document 01, "A signature without symbols is lawful: .. no value of it can be built": no value, reached or not, is a producer of it.
-no-value-without-symbols : {image : List ℕ} (a : Accepted image) (t : ℕ) → At (a .program .signatures) t [] → (v : RawMachine.Value) (w : Machine.Value) → Same image (a .program .signatures) (a .program .labels) v w (prd t) → ⊥
-no-value-without-symbols {image} a t e v w = Environments.no-producer image (a .program .signatures) (a .program .labels) e
-
--- how many words a configuration has stored
-abbrev words : Configuration → ℕ
-words c = length (c .stored)
-
--- Demand 2, "the words that the layout makes of its steps": a step stores exactly the block of its statement's fields or captures, directly behind the words stored before.
-demand-2-stores : {image : List ℕ} (a : Accepted image) (c c′ : Configuration) (k : Machine.Configuration) → Together image (a .program .signatures) (a .program .labels) c k → step image c ≡ goes c′
-    → c′ .stored ≡ c .stored ++ block (storedBy (a .program .signatures) (k .statement) (c .environment))
-demand-2-stores a c c′ k = Whole.stores a
-
-module _ {image : List ℕ} (a : Accepted image) (args : List ℕ) (l : Fitting a args) where
-  -- Demand 1: then 21, and the table is not touched.
-  demand-1-table : (fuel : ℕ) (table : List ℕ) → largestTable < length table → answer image args fuel table ≡ refusal 21 table
-  demand-1-table fuel table = Answers.table-refused a args fuel table (Whole.fitting a args l)
-
-  -- Demand 2: else the answer is the run's on trees: its ending's number and value, its steps and words, and its words at the front of the table, which keeps its length.
-  demand-2-answer : (fuel : ℕ) (table : List ℕ) → length table ≤ largestTable → answer image args fuel table ≡ answerOf (runTrees image args fuel (length table)) table
-  demand-2-answer = Answers.accepted-answer a args (Whole.fitting a args l)
-
-  demand-2-table : (fuel : ℕ) (table : List ℕ) → length (answerOf (runTrees image args fuel (length table)) table .table) ≡ length table
-  demand-2-table = Answers.same-length a args (Whole.fitting a args l)
-
-  -- Demand 2, its second half in one: the answer's number, steps, words and value are what the paper's abstract machine alone gives on the image's program, under that fuel and table.
-  demand-2-run : (fuel : ℕ) (table : List ℕ) → length table ≤ largestTable → (answer image args fuel table .number ≡ numberOf (runTerms (a .program) args fuel (length table) .how))
-      × (answer image args fuel table .steps ≡ runTerms (a .program) args fuel (length table) .steps)
-      × (answer image args fuel table .words ≡ runTerms (a .program) args fuel (length table) .final .words)
-      × (answer image args fuel table .value ≡ valueOf (runTerms (a .program) args fuel (length table) .how))
-  demand-2-run = Answers.paper-answer a args (Whole.fitting a args l)
-
-  -- Demand 2: that run's ending with its value, its steps, and how many words it stores, are those of the paper's abstract machine on the image's program,
-  demand-2-machine : (fuel size : ℕ) → (runTrees image args fuel size .how ≡ runTerms (a .program) args fuel size .how)
-      × (runTrees image args fuel size .steps ≡ runTerms (a .program) args fuel size .steps)
-      × (words (runTrees image args fuel size .final) ≡ runTerms (a .program) args fuel size .final .words)
-  demand-2-machine = Whole.same a args (Whole.fitting a args l)
-
-  -- and whatever it reaches stands for what the paper's machine reaches after as many steps: the same statement, and the same values, of which a raw one also knows its block's position.
-  demand-2-reached : (size n : ℕ) (c : Configuration) → Reached (step image) words size (start image args) n c
-      → (k : Machine.Configuration) × Reached (Machine.step (a .program)) (λ k. k .words) size (Machine.start (a .program) args) n k × Together image (a .program .signatures) (a .program .labels) c k
-  demand-2-reached = Whole.reached a args (Whole.fitting a args l)
-
-  -- Demand 2, "the words that the layout makes of its steps": the words stored so far hold the tree of every value of the environment, block by block, each at the position that a value's own words name.
-  demand-2-words : (size n : ℕ) (c : Configuration) → Reached (step image) words size (start image args) n c → AllKept (c .stored) (c .environment)
-  demand-2-words = Whole.stored a args (Whole.fitting a args l)
-
-  -- What is stored stays, whether its value is dropped or not: the words stored later stand behind it.
-  demand-2-stays : (size n m : ℕ) (c c′ : Configuration) → Reached (step image) words size (start image args) n c → Reached (step image) words size c m c′ → (later : List ℕ) × (c′ .stored ≡ c .stored ++ later)
-  demand-2-stays = Whole.stays a args (Whole.fitting a args l)
-
-  -- Demand 3: every configuration that the machine reaches has a next step.
-  demand-3-next : (size n : ℕ) (c : Configuration) → Reached (step image) words size (start image args) n c → step image c ≢ stuck
-  demand-3-next = Whole.never a args (Whole.fitting a args l)
-
-  -- Demand 3: it ends only by exit, by fuel spent, or by room spent, the last exactly when document 01 says.
-  demand-3-ends : (fuel size : ℕ) (o : Outcome Configuration) → (runTrees image args fuel size ≡ o) ↔ Ends (step image) words size (start image args) fuel o
-  demand-3-ends = Whole.ends-exactly a args (Whole.fitting a args l)
