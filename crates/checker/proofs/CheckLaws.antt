@@ -13,9 +13,10 @@ use Rattle.definitions.specs.Typing.{All, Parameters}
 use Rattle.definitions.specs.Layout.{counted}
 use Rattle.definitions.specs.Reader.{fault, Read, got, refused, Reader, after, need, byte, end}
 use Rattle.definitions.specs.FirstFault.{signatures, labels, bodies, program, readImage, firstFault}
+use Rattle.exactness.proofs.Entries.{all-at, at-below}
 use Rattle.exactness.proofs.Readers.{with′, need-then, and-true, bytes-drop}
 use Rattle.exactness.proofs.Numbers.{item-enough}
-use Rattle.exactness.proofs.Header.{all-at, signatures-sound, labels-sound}
+use Rattle.exactness.proofs.Header.{signatures-sound, labels-sound}
 use Rattle.checker.specs.declared.Walk.{Walk}
 use Rattle.checker.specs.declared.Walk.the-variants.{On, Bad}
 use Rattle.checker.specs.Shown.{forget, shown}
@@ -25,7 +26,7 @@ use Rattle.checker.specs.Bodies.{LabelsFit, BodiesIs, HeadRead, opening}
 use Rattle.checker.proofs.Loops.{shown-bad, shown-on, forget-after}
 use Rattle.checker.proofs.Counts.{after-bad, after-on}
 use Rattle.checker.proofs.Bytes.{Octets, octets}
-use Rattle.checker.proofs.Lists.{laid-inside, at-some, at-below, parameters-at}
+use Rattle.checker.proofs.Lists.{laid-inside, at-some, parameters-at}
 use Rattle.checker.proofs.Places.{laid-counted}
 
 -- ---- the tests before the content

@@ -90,11 +90,6 @@ beyond-six k n0 n1 n2 n3 n4 n5 n6 = later k (early k n0 n1 n2 n3) n4 n5 n6
     later : (k : ℕ) → 4 ≤ k → (k ≡ 4 → ⊥) → (k ≡ 5 → ⊥) → (k ≡ 6 → ⊥) → 7 ≤ k
     later k l n4 n5 n6 = omega arith
 
-pub at-below : {A : Type 0} (l : List A) (i : ℕ) (a : A) → At l i a → i < length l
-at-below [] i a e = let z : _≡_ {A = ℕ} 0 1 = cc in absurd (omega arith)
-at-below (x ∷ l) zero a e = omega arith
-at-below (x ∷ l) (suc i) a e = omega (arith, at-below l i a e)
-
 -- an entry of a part
 pub part-at : {A : Type 0} (l part : List A) (at n : ℕ) (d : A) → take n (drop at l) ≡ part → (j : ℕ) → j < n → getD l (at + j) d ≡ getD part j d
 part-at l part at n d e j h = sym (getD-drop at l j d) ∙ sym (getD-take n (drop at l) j d h) ∙ rw e

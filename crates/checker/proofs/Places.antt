@@ -9,8 +9,9 @@ use lib.ListN.{length, getD, set, drop, length-append}
 use lib.Seq.{getD-set-same, getD-set-other}
 use Rattle.definitions.specs.Typing.{At}
 use Rattle.definitions.specs.Layout.{typeBytes, counted}
+use Rattle.exactness.proofs.Entries.{at-below}
 use Rattle.checker.specs.Laid.{Laid, parametersBytes}
-use Rattle.checker.proofs.Lists.{laid-append, laid-front, laid-byte, laid-inside, types-length, at-below}
+use Rattle.checker.proofs.Lists.{laid-append, laid-front, laid-byte, laid-inside, types-length}
 use Rattle.checker.specs.Places.{Behind, PlacedFrom}
 
 -- ---- parts of what stands somewhere

@@ -6,7 +6,7 @@ use lib.ListN.{replicate}
 use Rattle.definitions.specs.Reader.{Fault, fault, after, need, the, byte, item, end}
 use Rattle.definitions.specs.FirstFault.{statement, verdict, firstFault}
 use Rattle.definitions.specs.Terms.{prd, ext, Environment, Signature, Statement, jump}
-use Rattle.definitions.specs.Layout.{region, counted, layout}
+use Rattle.definitions.specs.Layout.{layout}
 use Rattle.definitions.specs.Answer.{answer}
 use Rattle.definitions.specs.Run.{run}
 use Rattle.definitions.specs.RawMachine.{block, header}

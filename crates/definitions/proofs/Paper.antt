@@ -2,7 +2,7 @@
 use Prim.Native.Nat.{ℕ}
 use mathlib.Core.Path.{_≡_, refl}
 use mathlib.Core.List.{List, [], _∷_, _++_, map}
-use Rattle.definitions.specs.Terms.{prd, cns, ext, Signature, Operation, lit, add, sub, mul, ifz, less, exit}
+use Rattle.definitions.specs.Terms.{prd, cns, ext, Operation, lit, add, sub, mul, ifz, less, exit}
 use Rattle.definitions.specs.Terms.{Statement, jump, substitute, extern, let′, new, switch, invoke, Clauses, none, clause, Program}
 use Rattle.definitions.specs.Run.{Ending, exited, fuelSpent, roomSpent, noStep, run}
 use Rattle.definitions.specs.Machine.{runTerms}

@@ -18,9 +18,10 @@ use Rattle.definitions.specs.Layout.{region, literalBytes, operationByte, Head,
 use Rattle.definitions.specs.ClausePlaces.{ClausePlace, ofHead, inStatement, inClauses, inBodies, clausePlaces}
 use Rattle.definitions.specs.Reader.{Fault, fault, refused, Reader, after, need, the, byte, inRegion}
 use Rattle.definitions.specs.FirstFault.{clauses, aStatement, statement, bodies, program, envelope, firstFault}
+use Rattle.exactness.proofs.Entries.{all-at}
 use Rattle.exactness.proofs.Readers.{upto-complete}
 use Rattle.exactness.proofs.Numbers.{item-complete}
-use Rattle.exactness.proofs.Header.{all-at, sameTypes-refl, signaturesBytes, labelsBytes, signatures-complete, labels-complete}
+use Rattle.exactness.proofs.Header.{sameTypes-refl, signaturesBytes, labelsBytes, signatures-complete, labels-complete}
 use Rattle.exactness.proofs.Complete.{front-append, back-append, positions-complete, paired-types, arguments-complete, arguments-ext, operation-complete, region-complete, head-complete, clauseCount-typed, statement-complete, clauses-complete}
 use Rattle.exactness.proofs.ClausesLaid.{Each, none, both, mapped, Laid, laid-longer, laid-past, symbol-laid}
 

@@ -10,7 +10,8 @@ use Rattle.definitions.specs.Terms.{Statement, jump, substitute, extern, let′
 use Rattle.definitions.specs.Typing.{At, All}
 use Rattle.definitions.specs.Layout.{region, operationByte, literalBytes, Head, named, bare, headBytes, clauseCount, statementBytes, clausesBytes, bodiesBytes, content, layout}
 use Rattle.definitions.specs.ClausePlaces.{ClausePlace, ofHead, inStatement, inClauses, inBodies, clausePlaces}
-use Rattle.exactness.proofs.Header.{all-at, signaturesBytes, labelsBytes}
+use Rattle.exactness.proofs.Entries.{all-at}
+use Rattle.exactness.proofs.Header.{signaturesBytes, labelsBytes}
 use Rattle.exactness.proofs.Complete.{at-seam}
 
 -- ---- clauses that are listed

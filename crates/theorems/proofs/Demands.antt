@@ -3,7 +3,7 @@ use Prim.Native.Nat.{ℕ, _≤_, _<_}
 use mathlib.Core.Path.{_≡_}
 use mathlib.Core.Logic.{_↔_, _≢_}
 use mathlib.Core.List.{List, [], _∷_, _++_, map}
-use lib.ListN.{length, getD, set, take, drop}
+use lib.ListN.{length, set, take, drop}
 use Rattle.definitions.specs.Limits.{version, largestTable}
 use Rattle.definitions.specs.Terms.{prd, Environment, Signature, Statement, Program}
 use Rattle.definitions.specs.Typing.{At, TypedProgram}
@@ -28,6 +28,7 @@ use Rattle.definitions.proofs.Printed as Printed
 use Rattle.definitions.proofs.ClauseRows as ClauseRows
 use Rattle.exactness.proofs.Exact as Exact
 use Rattle.exactness.proofs.Faults as Faults
+use Rattle.exactness.proofs.Spelling as Spelling
 use Rattle.exactness.proofs.Bounds as Bounds
 use Rattle.exactness.proofs.ClausesLaid as ClausesLaid
 use Rattle.exactness.proofs.Accident as Accident
@@ -74,6 +75,10 @@ demand-2-number image b = (λ a. rw (Exact.accepted-faultless a), Exact.faultles
 -- One reading: so "the program of an accepted image" makes sense.
 one-reading : (p q : Program) → TypedProgram p → TypedProgram q → layout p ≡ layout q → p ≡ q
 one-reading = Exact.one-reading
+
+-- An accepted image is a byte string: whatever fits the limits is spelt in bytes.
+accepted-bytes : {image : List ℕ} → Accepted image → Bytes image
+accepted-bytes = Spelling.accepted-bytes
 
 -- The bound with which statements are read is no limit: from the image's length on, any bound gives the same reading.
 any-bound : (image : List ℕ) (k : ℕ) → length image ≤ k → envelope version (length image) (program k) 0 image ≡ readImage image
