@@ -2,10 +2,11 @@
 use Prim.Native.Nat.{ℕ}
 use mathlib.Core.Path.{_≡_, refl}
 use mathlib.Core.List.{List, [], _∷_, _++_, map}
+use mathlib.Core.Bool.{true, false}
 use lib.ListN.{replicate}
 use Rattle.definitions.specs.Reader.{Fault, fault, after, need, the, byte, item, end}
-use Rattle.definitions.specs.FirstFault.{statement, verdict, firstFault}
-use Rattle.definitions.specs.Terms.{prd, ext, Environment, Signature, Statement, jump}
+use Rattle.definitions.specs.FirstFault.{sameType, statement, verdict, firstFault}
+use Rattle.definitions.specs.Terms.{prd, cns, ext, Environment, Signature, Statement, jump}
 use Rattle.definitions.specs.Layout.{layout}
 use Rattle.definitions.specs.Answer.{answer}
 use Rattle.definitions.specs.Run.{run}
@@ -277,31 +278,57 @@ order-hold = refl
 
 -- ---- what one statement is refused for, at a depth and in an environment
 
--- A statement's bytes, from offset 0 on; the first fault, or 0 with where it ends.
-abbrev first : ℕ → Environment → List ℕ → Fault
-first d Δ bytes = verdict (statement two [] 9 d Δ 0 bytes)
+-- A depth, an environment, a statement's bytes from offset 0 on; the first fault, or 0 with where it ends.
+pub data Reading : Type 0 where
+  reads : ℕ → Environment → List ℕ → Fault → Reading
 
--- a lit up to its clause, which gains an integer
+abbrev pub read : Reading → Reading
+read (reads d Δ bytes stated) = reads d Δ bytes (verdict (statement two [] 9 d Δ 0 bytes))
+
+-- a lit up to its clause, which gains an integer; and with that clause
 abbrev lits : List ℕ
 lits = 2 ∷ 0 ∷ replicate 8 0
 
--- "5 and 10, both at the clause's first byte, or where an extern clause's length field stands or would stand; length": the symbol byte's 9 before 5, 5 before 10, 10 before the length field's 3
-pub depth-order : first 48 (ext ∷ []) (4 ∷ 1 ∷ 1 ∷ 1 ∷ 1 ∷ []) ∷ first 48 (replicate 32 ext) (4 ∷ 1 ∷ 32 ∷ 1 ∷ 0 ∷ []) ∷ first 48 (ext ∷ []) (4 ∷ 1 ∷ 1 ∷ 1 ∷ 0 ∷ []) ∷ first 48 (ext ∷ []) (4 ∷ 1 ∷ 1 ∷ 1 ∷ 0 ∷ 255 ∷ 255 ∷ []) ∷ []
-    ≡ fault 9 4 ∷ fault 5 4 ∷ fault 10 4 ∷ fault 10 4 ∷ []
-unfolding after need the byte item end
-depth-order = refl
+abbrev litExits : List ℕ
+litExits = lits ++ (0 ∷ 3 ∷ 2 ∷ 6 ∷ 0 ∷ [])
 
-pub depth-order-extern : first 48 (replicate 32 ext) lits ∷ first 48 (replicate 31 ext) lits ∷ first 48 (replicate 31 ext) (lits ++ (255 ∷ 255 ∷ [])) ∷ first 47 (replicate 31 ext) lits ∷ first 47 (replicate 31 ext) (lits ++ (0 ∷ 3 ∷ 2 ∷ 6 ∷ 0 ∷ [])) ∷ []
-    ≡ fault 5 10 ∷ fault 10 10 ∷ fault 10 10 ∷ fault 3 10 ∷ fault 0 15 ∷ []
-unfolding after need the byte item end
-depth-order-extern = refl
+-- "clause: symbol byte (3, 9); 5 and 10 ..; length": the symbol byte's 9 before 5, 5 before 10, 10 before the length field's 3; of new and of switch, and of an extern where the length field would stand
+abbrev depths : List Reading
+depths =
+    reads 48 (ext ∷ []) (4 ∷ 1 ∷ 1 ∷ 1 ∷ 1 ∷ []) (fault 9 4)
+    ∷ reads 48 (replicate 32 ext) (4 ∷ 1 ∷ 32 ∷ 1 ∷ 0 ∷ []) (fault 5 4)
+    ∷ reads 48 (ext ∷ []) (4 ∷ 1 ∷ 1 ∷ 1 ∷ 0 ∷ []) (fault 10 4)
+    ∷ reads 48 (ext ∷ []) (4 ∷ 1 ∷ 1 ∷ 1 ∷ 0 ∷ 255 ∷ 255 ∷ []) (fault 10 4)
+    ∷ reads 48 (prd 1 ∷ []) (5 ∷ 1 ∷ 1 ∷ 0 ∷ 0 ∷ []) (fault 10 3)
+    ∷ reads 47 (prd 1 ∷ []) (5 ∷ 1 ∷ 1 ∷ 0 ∷ 0 ∷ []) (fault 3 4)
+    ∷ reads 48 (replicate 32 ext) lits (fault 5 10)
+    ∷ reads 48 (replicate 31 ext) lits (fault 10 10)
+    ∷ reads 48 (replicate 31 ext) (lits ++ (255 ∷ 255 ∷ [])) (fault 10 10)
+    ∷ reads 47 (replicate 31 ext) lits (fault 3 10)
+    ∷ reads 47 (replicate 31 ext) litExits (fault 0 15)
+    ∷ []
 
--- only clauses add depth: what follows let, substitute or new stays at its own
-pub depth-kept : first 48 (ext ∷ []) (3 ∷ 0 ∷ 0 ∷ 1 ∷ 1 ∷ 0 ∷ 2 ∷ 6 ∷ 0 ∷ []) ∷ first 47 (ext ∷ []) (4 ∷ 1 ∷ 1 ∷ 1 ∷ 0 ∷ 0 ∷ 3 ∷ 2 ∷ 6 ∷ 0 ∷ (lits ++ (0 ∷ 3 ∷ 2 ∷ 6 ∷ 1 ∷ []))) ∷ [] ≡ fault 0 9 ∷ fault 0 25 ∷ []
-unfolding after need the byte item end
-depth-kept = refl
+-- only clauses add depth: what follows let, substitute or new stays at its own, and may have a clause there
+abbrev kept-depths : List Reading
+kept-depths =
+    reads 47 (ext ∷ []) (3 ∷ 0 ∷ 0 ∷ litExits) (fault 0 18)
+    ∷ reads 47 (ext ∷ []) (1 ∷ 1 ∷ 0 ∷ litExits) (fault 0 18)
+    ∷ reads 47 (ext ∷ ext ∷ []) (4 ∷ 1 ∷ 1 ∷ 1 ∷ 0 ∷ 0 ∷ 3 ∷ 2 ∷ 6 ∷ 0 ∷ litExits) (fault 0 25)
+    ∷ reads 48 (ext ∷ []) (3 ∷ 0 ∷ 0 ∷ litExits) (fault 10 13)
+    ∷ []
 
--- "8 at the code, then 5 at the code": both fail only in an environment above 32, which no image reaches
-pub let-order : first 0 (replicate 33 ext ++ (prd 0 ∷ [])) (3 ∷ 0 ∷ 1 ∷ []) ∷ first 0 (replicate 33 ext) (3 ∷ 0 ∷ 1 ∷ []) ∷ [] ≡ fault 8 0 ∷ fault 5 0 ∷ []
-unfolding after need the byte
-let-order = refl
+-- let: "8 at the code, then 5 at the code": both fail only in an environment above 32, which no image reaches
+abbrev wide-lets : List Reading
+wide-lets = reads 0 (replicate 33 ext ++ (prd 0 ∷ [])) (3 ∷ 0 ∷ 1 ∷ []) (fault 8 0) ∷ reads 0 (replicate 33 ext) (3 ∷ 0 ∷ 1 ∷ []) (fault 5 0) ∷ []
+
+abbrev pub readings : List Reading
+readings = depths ++ kept-depths ++ wide-lets
+
+pub readings-hold : map read readings ≡ readings
+unfolding after need the byte item end
+readings-hold = refl
+
+-- "equals": types are compared by kind and by number
+pub types-compared : map (sameType (cns 1)) (cns 1 ∷ cns 0 ∷ prd 1 ∷ ext ∷ []) ++ map (sameType (prd 1)) (prd 1 ∷ prd 0 ∷ cns 1 ∷ ext ∷ []) ++ map (sameType ext) (ext ∷ prd 0 ∷ cns 0 ∷ [])
+    ≡ true ∷ false ∷ false ∷ false ∷ true ∷ false ∷ false ∷ false ∷ true ∷ false ∷ false ∷ []
+types-compared = refl

@@ -33,6 +33,10 @@ operates op = one (extern (lit 6) [] (clause 0 (extern op (0 ∷ 1 ∷ []) (clau
 abbrev branches : Clauses
 branches = clause 0 exits (clause 1 (extern (lit 9) [] (clause 0 exits′ none)) none)
 
+-- a jump to another label, with the environment as it is
+abbrev two-labels : Program
+two-labels = record { signatures = []; labels = (ext ∷ []) ∷ (ext ∷ []) ∷ []; bodies = jump 1 ∷ exits ∷ [] }
+
 -- a consumer of signature 1, which captures nothing
 abbrev consumer : Statement → Statement
 consumer s = new 1 0 (clause 0 exits none) s
@@ -52,6 +56,7 @@ steps-rows =
     ∷ ran (one (extern ifz (0 ∷ []) branches)) (4 ∷ []) 9 0 (exited 9) 3 0
     ∷ ran (one (extern less (0 ∷ 0 ∷ []) branches)) (4 ∷ []) 9 0 (exited 9) 3 0
     ∷ ran (one (jump 0)) (4 ∷ []) 9 0 fuelSpent 9 0
+    ∷ ran two-labels (4 ∷ []) 9 0 (exited 4) 2 0
     ∷ ran (one (extern (lit 3) [] (clause 0 (substitute (1 ∷ 0 ∷ 1 ∷ []) exits) none))) (4 ∷ []) 9 0 (exited 3) 3 0
     ∷ ran (one (let′ 0 0 (switch 0 (clause 1 exits′ (clause 0 exits none))))) (4 ∷ []) 9 0 (exited 4) 3 0
     ∷ ran (one (let′ 0 0 (let′ 2 0 (switch 2 (clause 1 (jump 9) (clause 0 (switch 0 (clause 0 exits none)) none)))))) (4 ∷ []) 9 2 (exited 4) 5 2

@@ -65,7 +65,11 @@ unfolding after need the byte item end firstFault header block run answer layout
 room-printed = refl
 
 -- "at most 16,385 bytes": one more than an image may have, so that a longer input is refused for its size
-pub sizes-printed : map printed (replicate 16384 0 ∷ replicate 16385 0 ∷ replicate 16386 0 ∷ []) ≡ (line (2 ∷ 0 ∷ []) ++ line (2 ∷ 0 ∷ 0 ∷ 0 ∷ [])) ∷ (line (1 ∷ 0 ∷ []) ++ line (1 ∷ 0 ∷ 0 ∷ 0 ∷ [])) ∷ (line (1 ∷ 0 ∷ []) ++ line (1 ∷ 0 ∷ 0 ∷ 0 ∷ [])) ∷ []
+pub too-much-printed : printed (replicate 16385 0) ≡ line (1 ∷ 0 ∷ []) ++ line (1 ∷ 0 ∷ 0 ∷ 0 ∷ [])
+unfolding after need the byte item end firstFault header block run answer layout printed
+too-much-printed = refl
+
+pub sizes-printed : map printed (replicate 16384 0 ∷ replicate 16386 0 ∷ []) ≡ (line (2 ∷ 0 ∷ []) ++ line (2 ∷ 0 ∷ 0 ∷ 0 ∷ [])) ∷ (line (1 ∷ 0 ∷ []) ++ line (1 ∷ 0 ∷ 0 ∷ 0 ∷ [])) ∷ []
 unfolding after need the byte item end firstFault header block run answer layout printed
 sizes-printed = refl
 
@@ -73,3 +77,11 @@ sizes-printed = refl
 pub arguments-printed : printed B ≡ line (0 ∷ 35 ∷ []) ++ line (20 ∷ 0 ∷ 0 ∷ 0 ∷ [])
 unfolding after need the byte item end firstFault header block run answer printed
 arguments-printed = refl
+
+-- "prints .. value": all 64 bits of it
+abbrev pub greatest : List ℕ
+greatest = single [] [] (extern (lit 0xFFFFFFFFFFFFFFFF) [] (clause 0 exits none))
+
+pub value-printed : printed greatest ≡ line (0 ∷ 23 ∷ []) ++ line (40 ∷ 2 ∷ 0 ∷ 18446744073709551615 ∷ [])
+unfolding after need the byte item end firstFault header block run answer layout printed
+value-printed = refl

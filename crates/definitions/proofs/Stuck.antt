@@ -11,7 +11,7 @@ use Rattle.definitions.specs.FirstFault.{firstFault}
 use Rattle.definitions.specs.Terms.{prd, cns, ext, Signature}
 use Rattle.definitions.specs.Layout.{region, counted}
 use Rattle.definitions.specs.Ends.{ofKinds}
-use Rattle.definitions.specs.Run.{stuck, Ending, noStep, run}
+use Rattle.definitions.specs.Run.{stuck, Ending, exited, noStep, run}
 use Rattle.definitions.specs.RawMachine.{integer, producer, consumer, nil, Configuration, block, header, kindOf, forms, step}
 use Rattle.definitions.specs.Answer.{runTrees}
 use Rattle.definitions.proofs.Images as Images
@@ -129,6 +129,7 @@ no-clause =
     ∷ stops (bodied (0x02 ∷ 0x04 ∷ 0x00 ∷ [])) (fault 3 29) 0
     ∷ stops (bodied (0x02 ∷ 0x04 ∷ 0x00 ∷ 0x00 ∷ 0x03 ∷ 0x02 ∷ 0x06 ∷ 0x00 ∷ [])) (fault 3 34) 0
     ∷ stops (bodied (0x02 ∷ 0x04 ∷ 0x00 ∷ 0x00 ∷ 0x09 ∷ 0x02 ∷ 0x06 ∷ 0x00 ∷ 0x00 ∷ 0x03 ∷ 0x02 ∷ 0x06 ∷ 0x00 ∷ [])) (fault 3 29) 0
+    ∷ stops (bodied (0x03 ∷ 0x00 ∷ 0x00 ∷ 0x05 ∷ 0x00 ∷ 0x01 ∷ 0x01 ∷ 0x00 ∷ 0x03 ∷ 0x02 ∷ 0x06 ∷ 0x00 ∷ 0x00 ∷ 0x00 ∷ 0x03 ∷ 0x02 ∷ 0x06 ∷ 0x00 ∷ [])) (fault 9 31) 1
     ∷ []
 
 -- a code that no form has, before the bytes of each form, in an environment in which that form would go on
@@ -160,5 +161,25 @@ unfolding after the byte
 unknown-code image c code xs h e = rw (e, none-at (forms image (header image) c) code h)
 
 -- "as many values as types, of their kinds"
-pub kinds-hold : map (λ E. ofKinds kindOf E (ext ∷ [])) ([] ∷ (integer 5 ∷ []) ∷ (integer 5 ∷ integer 5 ∷ []) ∷ (producer 0 0 nil ∷ []) ∷ (consumer 0 0 nil ∷ []) ∷ []) ≡ false ∷ true ∷ false ∷ false ∷ false ∷ []
+pub kinds-hold : map (λ E. ofKinds kindOf E (ext ∷ prd 0 ∷ [])) ([] ∷ (integer 5 ∷ []) ∷ (integer 5 ∷ producer 0 0 nil ∷ []) ∷ (integer 5 ∷ integer 5 ∷ []) ∷ (integer 5 ∷ consumer 0 0 nil ∷ []) ∷ (producer 0 0 nil ∷ producer 0 0 nil ∷ []) ∷ (integer 5 ∷ producer 0 0 nil ∷ integer 5 ∷ []) ∷ [])
+    ≡ false ∷ false ∷ true ∷ false ∷ false ∷ false ∷ false ∷ []
 kinds-hold = refl
+
+-- ---- what the machine does not look at (`RawMachine`, its head): it goes on in images that are not accepted
+
+abbrev pub lenient-rows : List Stop
+lenient-rows =
+    -- the signature byte of switch, and of new
+    stop (bodied (0x03 ∷ 0x00 ∷ 0x00 ∷ 0x05 ∷ 0x01 ∷ 0x02 ∷ 0x00 ∷ 0x00 ∷ 0x03 ∷ 0x02 ∷ 0x06 ∷ 0x00 ∷ 0x01 ∷ 0x00 ∷ 0x03 ∷ 0x02 ∷ 0x06 ∷ 0x00 ∷ [])) (5 ∷ []) (fault 8 29) (exited 5) 3
+    ∷ stop (bodied (0x04 ∷ 0x00 ∷ 0x00 ∷ 0x01 ∷ 0x00 ∷ 0x00 ∷ 0x03 ∷ 0x02 ∷ 0x06 ∷ 0x00 ∷ 0x06 ∷ 0x00 ∷ [])) (5 ∷ []) (fault 9 29) (exited 5) 3
+    -- substitute's count
+    ∷ stop (bodied (0x01 ∷ 0x21 ∷ (replicate 33 0 ++ (0x02 ∷ 0x06 ∷ 0x20 ∷ [])))) (5 ∷ []) (fault 4 27) (exited 5) 2
+    -- the entries at an invoke
+    ∷ stop (bodied (0x01 ∷ 0x02 ∷ 0x00 ∷ 0x00 ∷ 0x04 ∷ 0x01 ∷ 0x00 ∷ 0x01 ∷ 0x00 ∷ 0x00 ∷ 0x03 ∷ 0x02 ∷ 0x06 ∷ 0x00 ∷ 0x06 ∷ 0x00 ∷ [])) (5 ∷ []) (fault 8 40) (exited 5) 4
+    -- where a region ends
+    ∷ stop (bodied (0x02 ∷ 0x06 ∷ 0x00 ∷ 0x00 ∷ [])) (5 ∷ []) (fault 11 29) (exited 5) 1
+    ∷ []
+
+pub lenient-hold : map computed lenient-rows ≡ lenient-rows
+unfolding after need the byte item end firstFault header block run region counted
+lenient-hold = refl

@@ -3,11 +3,11 @@ use Prim.Native.Nat.{ℕ, _≤_, _<_}
 use mathlib.Core.Path.{_≡_}
 use mathlib.Core.Logic.{_↔_, _≢_}
 use mathlib.Core.List.{List, [], _∷_, _++_, map}
-use lib.ListN.{length, set, take, drop}
+use lib.ListN.{length, set, take, drop, replicate}
 use Rattle.definitions.specs.Limits.{version, largestTable}
-use Rattle.definitions.specs.Terms.{prd, Environment, Signature, Statement, Program}
+use Rattle.definitions.specs.Terms.{prd, cns, ext, lit, add, sub, mul, ifz, less, exit, Environment, Signature, Statement, Program}
 use Rattle.definitions.specs.Typing.{At, TypedProgram}
-use Rattle.definitions.specs.Layout.{Bytes, named, layout, Accepted}
+use Rattle.definitions.specs.Layout.{Bytes, typeBytes, operationByte, named, layout, Accepted}
 use Rattle.definitions.specs.ClausePlaces.{ClausePlace, clausePlaces}
 use Rattle.definitions.specs.Reader.{Reader, fault, refused}
 use Rattle.definitions.specs.FirstFault.{clauses, program, envelope, readImage, firstFault}
@@ -58,7 +58,7 @@ demand-1-table a args l fuel table = Answers.table-refused a args fuel table (Wh
 demand-1-number : (image : List ℕ) → Bytes image → (Accepted image → ⊥) → (1 ≤ firstFault image .number) × (firstFault image .number ≤ 11)
 demand-1-number = Exact.number-refused
 
--- and a place inside the image: its offset is at most the image's length, whatever the bytes.
+-- and a place inside the image or at its end, whatever the bytes.
 demand-1-place : (image : List ℕ) → firstFault image .offset ≤ length image
 demand-1-place = Faults.offset-inside
 
@@ -124,7 +124,12 @@ module _ {image : List ℕ} (a : Accepted image) (args : List ℕ) (l : Fitting 
   demand-2-words : (size n : ℕ) (c : Configuration) → Reached (step image) words size (start image args) n c → AllKept (c .stored) (c .environment)
   demand-2-words = Whole.stored a args (Whole.fitting a args l)
 
-  -- What is stored stays, whether its value is dropped or not: the words stored later stand behind it.
+  -- A step stores exactly the block of the fields or captures of its statement, which the paper's machine reaches after as many steps, directly behind the words stored before;
+  demand-2-stores : (size n : ℕ) (c c′ : Configuration) → Reached (step image) words size (start image args) n c → step image c ≡ goes c′
+      → (k : Machine.Configuration) × Reached (Machine.step (a .program)) (λ k. k .words) size (Machine.start (a .program) args) n k × (c′ .stored ≡ c .stored ++ block (storedBy (a .program .signatures) (k .statement) (c .environment)))
+  demand-2-stores = Whole.stores-reached a args (Whole.fitting a args l)
+
+  -- and what is stored stays, whether its value is dropped or not: the words stored later stand behind it.
   demand-2-stays : (size n m : ℕ) (c c′ : Configuration) → Reached (step image) words size (start image args) n c → Reached (step image) words size c m c′ → (later : List ℕ) × (c′ .stored ≡ c .stored ++ later)
   demand-2-stays = Whole.stays a args (Whole.fitting a args l)
 
@@ -135,11 +140,6 @@ module _ {image : List ℕ} (a : Accepted image) (args : List ℕ) (l : Fitting 
   -- Demand 3: it ends only by exit, by fuel spent, or by room spent, the last exactly when document 01 says.
   demand-3-ends : (fuel size : ℕ) (o : Outcome Configuration) → (runTrees image args fuel size ≡ o) ↔ Ends (step image) words size (start image args) fuel o
   demand-3-ends = Whole.ends-exactly a args (Whole.fitting a args l)
-
--- Demand 2, "the words that the layout makes of its steps": a step stores exactly the block of its statement's fields or captures, directly behind the words stored before.
-demand-2-stores : {image : List ℕ} (a : Accepted image) (c c′ : Configuration) (k : Machine.Configuration) → Together image (a .program .signatures) (a .program .labels) c k → step image c ≡ goes c′
-    → c′ .stored ≡ c .stored ++ block (storedBy (a .program .signatures) (k .statement) (c .environment))
-demand-2-stores a c c′ k = Whole.stores a
 
 -- Demands 1 and 3: whatever the input, an answer's number is a refusal's, 40, 41 or 42.
 demand-3-number : (image args : List ℕ) (fuel : ℕ) (table : List ℕ) → Bytes image → AnswerNumber (answer image args fuel table .number)
@@ -187,6 +187,14 @@ further-rows = Table.further-hold
 order-of-tests : map Table.computed Order.order ≡ Order.order
 order-of-tests = Order.order-hold
 
+-- The same of statements alone, at depths and in environments: 9 before 5, 5 before 10, 10 before 3; 8 before 5; only clauses add depth.
+order-in-statements : map Order.read Order.readings ≡ Order.readings
+order-in-statements = Order.readings-hold
+
+-- "Kind: 0 prd, 1 cns, 2 ext."; "Operations: 0 lit .. 6 exit".
+kinds-and-operations : (map typeBytes (prd 3 ∷ cns 3 ∷ ext ∷ []) ≡ (0 ∷ 3 ∷ []) ∷ (1 ∷ 3 ∷ []) ∷ (2 ∷ 0 ∷ []) ∷ []) × (map operationByte (lit 9 ∷ add ∷ sub ∷ mul ∷ ifz ∷ less ∷ exit ∷ []) ≡ 0 ∷ 1 ∷ 2 ∷ 3 ∷ 4 ∷ 5 ∷ 6 ∷ [])
+kinds-and-operations = (Table.type-bytes, Table.operation-bytes)
+
 -- "The program writes exactly: 0 23, 40 2 0 7", for a run with fuel 100,000,
 program-prints-A : printed Images.A ≡ 0x30 ∷ 0x20 ∷ 0x32 ∷ 0x33 ∷ 0x0A ∷ 0x34 ∷ 0x30 ∷ 0x20 ∷ 0x32 ∷ 0x20 ∷ 0x30 ∷ 0x20 ∷ 0x37 ∷ 0x0A ∷ []
 program-prints-A = Table.A-printed
@@ -198,6 +206,19 @@ program-has-fuel = Printed.fuel-printed
 program-has-room : printed Printed.full ≡ line (0 ∷ 1251 ∷ []) ++ line (42 ∷ 66 ∷ 1024 ∷ 0 ∷ [])
 program-has-room = Printed.room-printed
 
+-- A line is unsigned decimal with single spaces; a value has 64 bits; a run has no arguments; an input of more than 16,384 bytes is refused for its size.
+program-prints-lines : line (41 ∷ 100000 ∷ 0 ∷ 9 ∷ []) ≡ 0x34 ∷ 0x31 ∷ 0x20 ∷ 0x31 ∷ 0x30 ∷ 0x30 ∷ 0x30 ∷ 0x30 ∷ 0x30 ∷ 0x20 ∷ 0x30 ∷ 0x20 ∷ 0x39 ∷ 0x0A ∷ []
+program-prints-lines = Printed.line-bytes
+
+program-prints-values : printed Printed.greatest ≡ line (0 ∷ 23 ∷ []) ++ line (40 ∷ 2 ∷ 0 ∷ 18446744073709551615 ∷ [])
+program-prints-values = Printed.value-printed
+
+program-has-no-arguments : printed Images.B ≡ line (0 ∷ 35 ∷ []) ++ line (20 ∷ 0 ∷ 0 ∷ 0 ∷ [])
+program-has-no-arguments = Printed.arguments-printed
+
+program-reads-too-much : printed (replicate 16385 0) ≡ line (1 ∷ 0 ∷ []) ++ line (1 ∷ 0 ∷ 0 ∷ 0 ∷ [])
+program-reads-too-much = Printed.too-much-printed
+
 -- "it is stuck where bytes give no statement, an entry is missing or of the wrong kind, or no clause answers": images that are not accepted, and after how many steps the machine has no next one;
 stuck-rows : map Stuck.computed Stuck.stuck-rows ≡ Stuck.stuck-rows
 stuck-rows = Stuck.stuck-hold
@@ -205,6 +226,10 @@ stuck-rows = Stuck.stuck-hold
 -- and no code from 7 on, in whatever image and configuration;
 unknown-code-stuck : (image : List ℕ) (c : Configuration) (code : ℕ) (xs : List ℕ) → 7 ≤ code → drop (c .at) image ≡ code ∷ xs → step image c ≡ stuck
 unknown-code-stuck = Stuck.unknown-code
+
+-- it goes on where it is said not to look;
+lenient-rows : map Stuck.computed Stuck.lenient-rows ≡ Stuck.lenient-rows
+lenient-rows = Stuck.lenient-hold
 
 -- the same of the paper's machine, on programs that typing does not allow, and what it does on programs that it allows;
 paper-stuck-rows : map Paper.computed Paper.stuck-rows ≡ Paper.stuck-rows

@@ -98,10 +98,11 @@ fn an_ignored_or_failed_test_is_refused() {
 #[test]
 fn a_log_that_does_not_add_up_is_refused() {
     let log = LEAST.log();
-    let unproved = "rt counts 5, its lines show 1 crates and 3 edits";
+    let unproved = "rt counts 5, its lines show 1 crates and 3 edits refused for a fact";
     refused("unproved", &log.replacen("crate_1 proved", "crate_1 NOT PROVED", 1), unproved);
-    let unrefused = "rt counts 5, its lines show 2 crates and 2 edits";
+    let unrefused = "rt counts 5, its lines show 2 crates and 2 edits refused for a fact";
     refused("unrefused", &log.replacen("refused, as it must be", "NOT REFUSED", 1), unrefused);
+    refused("unreadable", &log.replacen("first at proofs/", "first at specs/", 1), unrefused);
     refused("unclosed", &log.replacen("the crates: ", "", 1), "rt did not pass");
     refused("empty", "", "rt did not pass");
 }
@@ -119,15 +120,36 @@ fn least(name: &str) -> usize {
     line.expect("a line for the name").parse().expect("a number")
 }
 
+/// How many times a line stands in the files of a folder, and below it, whose names end so.
+fn count(folder: &Path, ending: &str, line: &str) -> usize {
+    let entries = fs::read_dir(folder).into_iter().flatten();
+    let counts = entries.map(|entry| {
+        let path = entry.expect("an entry").path();
+        if path.is_dir() && !path.ends_with("target") {
+            return count(&path, ending, line);
+        }
+        if !path.is_file() || !path.to_string_lossy().ends_with(ending) {
+            return 0;
+        }
+        let text = fs::read_to_string(&path).expect("a source");
+        text.lines().filter(|l| l.trim() == line).count()
+    });
+    counts.sum()
+}
+
+/// The floor lies at what the repository has: of tests there may be more, examples in comments.
 #[test]
 fn the_least_numbers_are_those_of_the_repository() {
+    assert!(least("tests") >= count(&repository().join("rust"), ".rs", "#[test]"));
     let crates = fs::read_to_string(repository().join("crates.txt")).expect("crates.txt");
     let names = crates.lines().filter(|line| !line.starts_with('#'));
     let names: Vec<&str> = names.filter_map(|line| line.split(':').next()).collect();
     assert_eq!(names.len(), least("crates"));
     let edits = names.iter().map(|name| {
         let folder = repository().join("crates").join(name).join("must-fail");
-        fs::read_dir(folder).map_or(0, Iterator::count)
+        let files = fs::read_dir(folder).into_iter().flatten();
+        let names = files.map(|file| file.expect("an entry").file_name());
+        names.filter(|name| name.to_string_lossy().ends_with(".edit")).count()
     });
     assert_eq!(edits.sum::<usize>(), least("edits"));
 }
