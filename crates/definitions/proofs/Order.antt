@@ -7,12 +7,12 @@ use lib.ListN.{replicate}
 use Rattle.definitions.specs.Reader.{Fault, fault, after, need, the, byte, item, end}
 use Rattle.definitions.specs.FirstFault.{sameType, statement, verdict, firstFault}
 use Rattle.definitions.specs.Terms.{prd, cns, ext, Environment, Signature, Statement, jump}
-use Rattle.definitions.specs.Layout.{layout}
+use Rattle.definitions.specs.Layout.{region, counted, layout}
 use Rattle.definitions.specs.Answer.{answer}
 use Rattle.definitions.specs.Run.{run}
 use Rattle.definitions.specs.RawMachine.{block, header}
 use Rattle.definitions.proofs.Images.{exits, single, framed, bodied}
-use Rattle.definitions.proofs.Rows.{Row, checks, computed}
+use Rattle.definitions.proofs.Rows.{Row, checks, computed, both}
 
 -- ---- images
 
@@ -44,6 +44,10 @@ start =
     ∷ checks (replicate 16385 0) (fault 1 0)
     ∷ []
 
+start-hold : map computed start ≡ start
+unfolding after need the byte item end firstFault header block run answer layout region counted
+start-hold = refl
+
 -- "An item is tested 3, then 4, 6 or 7, then the rest": counts and types. A type may name a later signature; an unknown kind is 6 where the number is missing too.
 abbrev heads : List Row
 heads =
@@ -70,6 +74,10 @@ heads =
     ∷ checks (framed (0x01 ∷ 0x00 ∷ 0x02 ∷ 0x00 ∷ 0x01 ∷ 0x00 ∷ 0x00 ∷ [])) (fault 3 10)
     ∷ []
 
+heads-hold : map computed heads ≡ heads
+unfolding after need the byte item end firstFault header block run answer layout region counted
+heads-hold = refl
+
 -- "label 0 type not ext: 8 at its kind byte, after the type has been read"
 abbrev entries : List Row
 entries =
@@ -83,6 +91,10 @@ entries =
     ∷ checks (framed (0x01 ∷ 0x00 ∷ 0x01 ∷ 0x01 ∷ 0x02 ∷ 0x00 ∷ [])) (fault 3 9)
     ∷ checks (framed (0x01 ∷ 0x00 ∷ 0x01 ∷ 0x02 ∷ 0x02 ∷ 0x00 ∷ 0x00 ∷ 0x00 ∷ [])) (fault 8 9)
     ∷ []
+
+entries-hold : map computed entries ≡ entries
+unfolding after need the byte item end firstFault header block run answer layout region counted
+entries-hold = refl
 
 -- "a region's length field"; "a length field and a literal are one item each"; 11, "bytes left in a region, or in the image after the last body". A region is tested before what follows it is read.
 abbrev regions : List Row
@@ -104,6 +116,10 @@ regions =
     ∷ checks (narrow (0x02 ∷ 0x00 ∷ 0x00 ∷ 0x00 ∷ 0x00 ∷ 0x00 ∷ 0x00 ∷ 0x00 ∷ 0x00 ∷ 0x07 ∷ 0x00 ∷ 0x03 ∷ 0x02 ∷ 0x06 ∷ 0x01 ∷ 0x00 ∷ [])) (fault 11 34)
     ∷ []
 
+regions-hold : map computed regions ≡ regions
+unfolding after need the byte item end firstFault header block run answer layout region counted
+regions-hold = refl
+
 -- 6, "unknown .. code": a statement's first item
 abbrev codes : List Row
 codes =
@@ -112,6 +128,10 @@ codes =
     ∷ checks (narrow (0xFF ∷ [])) (fault 6 19)
     ∷ checks (narrow (0x01 ∷ 0x01 ∷ 0x00 ∷ 0x07 ∷ [])) (fault 6 22)
     ∷ []
+
+codes-hold : map computed codes ≡ codes
+unfolding after need the byte item end firstFault header block run answer layout region counted
+codes-hold = refl
 
 -- "jump: label, then 8 at the code"
 abbrev jumps : List Row
@@ -123,6 +143,10 @@ jumps =
     ∷ checks (narrow (0x01 ∷ 0x00 ∷ 0x00 ∷ 0x00 ∷ [])) (fault 8 21)
     ∷ checks (narrow (0x00 ∷ 0x00 ∷ [])) (fault 0 21)
     ∷ []
+
+jumps-hold : map computed jumps ≡ jumps
+unfolding after need the byte item end firstFault header block run answer layout region counted
+jumps-hold = refl
 
 -- "substitute | count 0 to 32, that many positions, statement"
 abbrev substitutes : List Row
@@ -137,6 +161,10 @@ substitutes =
     ∷ checks (narrow (1 ∷ 32 ∷ (replicate 32 0 ++ (2 ∷ 6 ∷ 31 ∷ [])))) (fault 0 56)
     ∷ checks (narrow (1 ∷ 33 ∷ (replicate 33 0 ++ (2 ∷ 6 ∷ 31 ∷ [])))) (fault 4 20)
     ∷ []
+
+substitutes-hold : map computed substitutes ≡ substitutes
+unfolding after need the byte item end firstFault header block run answer layout region counted
+substitutes-hold = refl
 
 -- "extern: operation; each position 3, 7, then 8 at that position; literal; clauses"
 abbrev externs : List Row
@@ -161,6 +189,10 @@ externs =
     ∷ checks (narrow (0x02 ∷ 0x06 ∷ 0x00 ∷ 0x00 ∷ [])) (fault 11 22)
     ∷ []
 
+externs-hold : map computed externs ≡ externs
+unfolding after need the byte item end firstFault header block run answer layout region counted
+externs-hold = refl
+
 -- "let: signature, symbol, 8 at the code, then 5 at the code"
 abbrev lets : List Row
 lets =
@@ -175,6 +207,10 @@ lets =
     ∷ checks (wide (0x03 ∷ 0x00 ∷ 0x00 ∷ [])) (fault 5 81)
     ∷ checks (wide (0x03 ∷ 0x00 ∷ 0x01 ∷ [])) (fault 3 84)
     ∷ []
+
+lets-hold : map computed lets ≡ lets
+unfolding after need the byte item end firstFault header block run answer layout region counted
+lets-hold = refl
 
 -- "new: signature; capture count (3, then 8 at that byte if above the environment); clause count; clauses; then 5 at the code for the remainder"
 abbrev news : List Row
@@ -196,6 +232,10 @@ news =
     ∷ checks (wide (0x04 ∷ 0x01 ∷ 0x01 ∷ 0x01 ∷ 0x00 ∷ 0x00 ∷ 0x03 ∷ 0x02 ∷ 0x06 ∷ 0x00 ∷ [])) (fault 3 91)
     ∷ []
 
+news-hold : map computed news ≡ news
+unfolding after need the byte item end firstFault header block run answer layout region counted
+news-hold = refl
+
 -- "switch: signature, 8 at the code, clause count, clauses"
 abbrev switches : List Row
 switches =
@@ -212,6 +252,10 @@ switches =
     ∷ checks (narrow (0x03 ∷ 0x00 ∷ 0x00 ∷ 0x05 ∷ 0x00 ∷ 0x02 ∷ 0x00 ∷ 0x00 ∷ 0x03 ∷ 0x02 ∷ 0x06 ∷ 0x00 ∷ 0x01 ∷ 0x00 ∷ 0x03 ∷ 0x02 ∷ 0x06 ∷ 0x01 ∷ [])) (fault 0 37)
     ∷ []
 
+switches-hold : map computed switches ≡ switches
+unfolding after need the byte item end firstFault header block run answer layout region counted
+switches-hold = refl
+
 -- "invoke: 8 at the code if the last entry is absent or not cns; symbol; 8 at the code for the rest"
 abbrev invokes : List Row
 invokes =
@@ -224,6 +268,10 @@ invokes =
     ∷ checks (narrow (0x01 ∷ 0x02 ∷ 0x00 ∷ 0x00 ∷ 0x04 ∷ 0x01 ∷ 0x00 ∷ 0x01 ∷ 0x00 ∷ 0x00 ∷ 0x03 ∷ 0x02 ∷ 0x06 ∷ 0x00 ∷ 0x06 ∷ 0x00 ∷ [])) (fault 8 33)
     ∷ checks (narrow (0x01 ∷ 0x00 ∷ 0x04 ∷ 0x01 ∷ 0x00 ∷ 0x01 ∷ 0x00 ∷ 0x00 ∷ 0x03 ∷ 0x02 ∷ 0x06 ∷ 0x00 ∷ 0x06 ∷ 0x00 ∷ [])) (fault 8 31)
     ∷ []
+
+invokes-hold : map computed invokes ≡ invokes
+unfolding after need the byte item end firstFault header block run answer layout region counted
+invokes-hold = refl
 
 -- "clause: symbol byte (3, 9); 5 and 10, both at the clause's first byte, or where an extern clause's length field stands or would stand; length"
 abbrev clauses : List Row
@@ -243,6 +291,10 @@ clauses =
     ∷ checks (wide (0x02 ∷ 0x01 ∷ 0x00 ∷ 0x00 ∷ [])) (fault 5 85)
     ∷ checks (wide (0x02 ∷ 0x04 ∷ 0x00 ∷ 0x00 ∷ 0x03 ∷ 0x02 ∷ 0x06 ∷ 0x00 ∷ 0x00 ∷ 0x03 ∷ 0x02 ∷ 0x06 ∷ 0x00 ∷ [])) (fault 0 94)
     ∷ []
+
+clauses-hold : map computed clauses ≡ clauses
+unfolding after need the byte item end firstFault header block run answer layout region counted
+clauses-hold = refl
 
 -- ---- limits
 
@@ -267,14 +319,17 @@ limits =
     ∷ checks (labelled (replicate 33 ext ∷ []) (exits ∷ [])) (fault 4 6)
     ∷ []
 
+limits-hold : map computed limits ≡ limits
+unfolding after need the byte item end firstFault header block run answer layout region counted
+limits-hold = refl
+
 -- ---- all of them
 
 abbrev pub order : List Row
 order = start ++ heads ++ entries ++ regions ++ codes ++ jumps ++ substitutes ++ externs ++ lets ++ news ++ switches ++ invokes ++ clauses ++ limits
 
 pub order-hold : map computed order ≡ order
-unfolding after need the byte item end firstFault header block run answer layout
-order-hold = refl
+order-hold = both computed start-hold (both computed heads-hold (both computed entries-hold (both computed regions-hold (both computed codes-hold (both computed jumps-hold (both computed substitutes-hold (both computed externs-hold (both computed lets-hold (both computed news-hold (both computed switches-hold (both computed invokes-hold (both computed clauses-hold limits-hold))))))))))))
 
 -- ---- what one statement is refused for, at a depth and in an environment
 
@@ -308,6 +363,10 @@ depths =
     ∷ reads 47 (replicate 31 ext) litExits (fault 0 15)
     ∷ []
 
+depths-hold : map read depths ≡ depths
+unfolding after need the byte item end
+depths-hold = refl
+
 -- only clauses add depth: what follows let, substitute or new stays at its own, and may have a clause there
 abbrev kept-depths : List Reading
 kept-depths =
@@ -317,16 +376,23 @@ kept-depths =
     ∷ reads 48 (ext ∷ []) (3 ∷ 0 ∷ 0 ∷ litExits) (fault 10 13)
     ∷ []
 
+kept-depths-hold : map read kept-depths ≡ kept-depths
+unfolding after need the byte item end
+kept-depths-hold = refl
+
 -- let: "8 at the code, then 5 at the code": both fail only in an environment above 32, which no image reaches
 abbrev wide-lets : List Reading
 wide-lets = reads 0 (replicate 33 ext ++ (prd 0 ∷ [])) (3 ∷ 0 ∷ 1 ∷ []) (fault 8 0) ∷ reads 0 (replicate 33 ext) (3 ∷ 0 ∷ 1 ∷ []) (fault 5 0) ∷ []
+
+wide-lets-hold : map read wide-lets ≡ wide-lets
+unfolding after need the byte item end
+wide-lets-hold = refl
 
 abbrev pub readings : List Reading
 readings = depths ++ kept-depths ++ wide-lets
 
 pub readings-hold : map read readings ≡ readings
-unfolding after need the byte item end
-readings-hold = refl
+readings-hold = both read depths-hold (both read kept-depths-hold wide-lets-hold)
 
 -- "equals": types are compared by kind and by number
 pub types-compared : map (sameType (cns 1)) (cns 1 ∷ cns 0 ∷ prd 1 ∷ ext ∷ []) ++ map (sameType (prd 1)) (prd 1 ∷ prd 0 ∷ cns 1 ∷ ext ∷ []) ++ map (sameType ext) (ext ∷ prd 0 ∷ cns 0 ∷ [])

@@ -7,6 +7,7 @@ use Rattle.definitions.specs.Terms.{Statement, jump, substitute, extern,
 use Rattle.definitions.specs.Run.{Ending, exited, fuelSpent, roomSpent, noStep, run}
 use Rattle.definitions.specs.Machine.{runTerms}
 use Rattle.definitions.proofs.Images.{program-A, program-B, program-C, exits}
+use Rattle.definitions.proofs.Rows.{both}
 
 -- A program, its arguments, fuel and size of table: how its run ends, after how many steps, with how many words stored.
 pub data Ran : Type 0 where
@@ -80,6 +81,10 @@ missing =
     ++ stuck-after 1 (map (λ s. substitute [] s) (exits ∷ let′ 0 1 exits ∷ new 1 1 (clause 0 exits none) (invoke 0) ∷ switch 0 (clause 0 exits none) ∷ invoke 0 ∷ []))
     ++ (ran (record { signatures = []; labels = []; bodies = [] }) [] 99 99 noStep 0 0 ∷ [])
 
+missing-hold : map computed missing ≡ missing
+unfolding run
+missing-hold = refl
+
 -- an operation has fewer or more arguments than it takes
 abbrev counted : List Ran
 counted =
@@ -97,6 +102,10 @@ counted =
     ∷ []
     )
 
+counted-hold : map computed counted ≡ counted
+unfolding run
+counted-hold = refl
+
 -- an entry is of the wrong kind
 abbrev wrong-kind : List Ran
 wrong-kind =
@@ -104,15 +113,22 @@ wrong-kind =
     ++ stuck-after 1 (map (λ s. let′ 0 0 s) (exits′ ∷ extern add (0 ∷ 1 ∷ []) (clause 0 exits none) ∷ let′ 0 1 exits ∷ let′ 2 1 exits ∷ invoke 0 ∷ []))
     ++ stuck-after 1 (map consumer (exits′ ∷ extern add (1 ∷ 0 ∷ []) (clause 0 exits none) ∷ let′ 0 1 exits ∷ let′ 2 0 exits ∷ switch 1 (clause 0 exits none) ∷ []))
 
+wrong-kind-hold : map computed wrong-kind ≡ wrong-kind
+unfolding run
+wrong-kind-hold = refl
+
 -- no clause answers: by symbol, and for an operation by place
 abbrev no-clause : List Ran
 no-clause =
     stuck-after 1 (let′ 0 0 (switch 0 none) ∷ let′ 0 0 (switch 0 (clause 1 exits none)) ∷ new 1 0 none (invoke 0) ∷ new 1 0 (clause 5 exits none) (invoke 0) ∷ consumer (invoke 1) ∷ [])
     ++ stuck-after 0 (extern (lit 7) [] none ∷ extern ifz (0 ∷ []) (clause 0 exits none) ∷ extern less (0 ∷ 0 ∷ []) (clause 0 exits none) ∷ [])
 
+no-clause-hold : map computed no-clause ≡ no-clause
+unfolding run
+no-clause-hold = refl
+
 abbrev pub stuck-rows : List Ran
 stuck-rows = missing ++ counted ++ wrong-kind ++ no-clause
 
 pub stuck-hold : map computed stuck-rows ≡ stuck-rows
-unfolding run
-stuck-hold = refl
+stuck-hold = both computed missing-hold (both computed counted-hold (both computed wrong-kind-hold no-clause-hold))

@@ -16,6 +16,7 @@ use Rattle.definitions.specs.RawMachine.{integer, producer, consumer, ni
 use Rattle.definitions.specs.Answer.{runTrees}
 use Rattle.definitions.proofs.Images as Images
 use Rattle.definitions.proofs.Images.{A}
+use Rattle.definitions.proofs.Rows.{both}
 
 -- An image that is not accepted, with its arguments: its first fault, and how and after how many steps the machine stops, with fuel and room left.
 pub data Stop : Type 0 where
@@ -80,6 +81,10 @@ no-statement =
     ∷ stops (bodied (0x04 ∷ 0x01 ∷ 0x00 ∷ 0x01 ∷ 0x00 ∷ 0x00 ∷ 0x03 ∷ 0x02 ∷ 0x06 ∷ 0x00 ∷ 0x06 ∷ [])) (fault 3 37) 1
     ∷ []
 
+no-statement-hold : map computed no-statement ≡ no-statement
+unfolding after need the byte item end firstFault header block run region counted
+no-statement-hold = refl
+
 -- "an entry is missing": each form that takes one
 abbrev missing : List Stop
 missing =
@@ -94,6 +99,10 @@ missing =
     ∷ stops (bodied (0x01 ∷ 0x00 ∷ 0x05 ∷ 0x00 ∷ 0x02 ∷ 0x00 ∷ 0x00 ∷ 0x03 ∷ 0x02 ∷ 0x06 ∷ 0x00 ∷ [])) (fault 8 28) 1
     ∷ stops (bodied (0x01 ∷ 0x00 ∷ 0x06 ∷ 0x00 ∷ [])) (fault 8 28) 1
     ∷ []
+
+missing-hold : map computed missing ≡ missing
+unfolding after need the byte item end firstFault header block run region counted
+missing-hold = refl
 
 -- "or of the wrong kind": each form and each wrong kind
 abbrev wrong-kind : List Stop
@@ -115,6 +124,10 @@ wrong-kind =
     ∷ stops (bodied (0x03 ∷ 0x00 ∷ 0x00 ∷ 0x06 ∷ 0x00 ∷ [])) (fault 8 29) 1
     ∷ []
 
+wrong-kind-hold : map computed wrong-kind ≡ wrong-kind
+unfolding after need the byte item end firstFault header block run region counted
+wrong-kind-hold = refl
+
 -- "or no clause answers": switch and invoke, by symbol; an operation, by place
 abbrev no-clause : List Stop
 no-clause =
@@ -132,6 +145,10 @@ no-clause =
     ∷ stops (bodied (0x03 ∷ 0x00 ∷ 0x00 ∷ 0x05 ∷ 0x00 ∷ 0x01 ∷ 0x01 ∷ 0x00 ∷ 0x03 ∷ 0x02 ∷ 0x06 ∷ 0x00 ∷ 0x00 ∷ 0x00 ∷ 0x03 ∷ 0x02 ∷ 0x06 ∷ 0x00 ∷ [])) (fault 9 31) 1
     ∷ []
 
+no-clause-hold : map computed no-clause ≡ no-clause
+unfolding after need the byte item end firstFault header block run region counted
+no-clause-hold = refl
+
 -- a code that no form has, before the bytes of each form, in an environment in which that form would go on
 abbrev no-code : List Stop
 no-code =
@@ -144,16 +161,23 @@ no-code =
     ∷ stops (bodied (0x04 ∷ 0x01 ∷ 0x00 ∷ 0x01 ∷ 0x00 ∷ 0x00 ∷ 0x03 ∷ 0x02 ∷ 0x06 ∷ 0x00 ∷ 0x07 ∷ 0x00 ∷ [])) (fault 6 36) 1
     ∷ []
 
+no-code-hold : map computed no-code ≡ no-code
+unfolding after need the byte item end firstFault header block run region counted
+no-code-hold = refl
+
 -- a head that is refused has no label to start with, wherever it would stand
 abbrev no-start : List Stop
 no-start = stop [] [] (fault 1 0) noStep 0 ∷ stop (set A 4 0) [] (fault 4 4) noStep 0 ∷ stop (Images.framed (0 ∷ 1 ∷ 0 ∷ [])) [] (fault 3 6) noStep 0 ∷ stop (Images.framed (replicate 60 0)) [] (fault 4 4) noStep 0 ∷ []
+
+no-start-hold : map computed no-start ≡ no-start
+unfolding after need the byte item end firstFault header block run region counted
+no-start-hold = refl
 
 abbrev pub stuck-rows : List Stop
 stuck-rows = no-statement ++ no-code ++ missing ++ wrong-kind ++ no-clause ++ no-start
 
 pub stuck-hold : map computed stuck-rows ≡ stuck-rows
-unfolding after need the byte item end firstFault header block run region counted
-stuck-hold = refl
+stuck-hold = both computed no-statement-hold (both computed no-code-hold (both computed missing-hold (both computed wrong-kind-hold (both computed no-clause-hold no-start-hold))))
 
 -- no code from 7 on has a form, whatever the image and the configuration
 pub unknown-code : (image : List ℕ) (c : Configuration) (code : ℕ) (xs : List ℕ) → 7 ≤ code → drop (c .at) image ≡ code ∷ xs → step image c ≡ stuck
