@@ -1,4 +1,6 @@
 // The program: an image from standard input, two lines to standard output.
+#![tactic(auto)]
+
 use libc::{STDIN_FILENO, STDOUT_FILENO};
 
 fn main() {

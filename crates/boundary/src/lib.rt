@@ -1,4 +1,6 @@
 // What programs in other languages call, through a static library.
+#![tactic(auto)]
+
 ghost use Rattle.std.specs.Prelude.{◌≡◌};
 ghost use Rattle.definitions.specs.Reader.{fault};
 ghost use Rattle.definitions.specs.FirstFault.{first_fault};

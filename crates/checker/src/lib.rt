@@ -1,4 +1,6 @@
 // The check: the first fault of every byte string.
+#![tactic(auto)]
+
 ghost use Rattle.std.specs.Prelude.{◌≡◌};
 ghost use Rattle.definitions.specs.Reader.{fault};
 ghost use Rattle.definitions.specs.FirstFault.{first_fault};

@@ -62,11 +62,11 @@ module _ (L : ℕ) where
       tested (leb n (length xs)) 3 o (λ _. filling n m) (λ _. filling n m') (λ at xs l. rw (e at (take n xs) (rw length-take (omega arith)))) at xs l
 
   -- an entry of two tables of forms
-  listed : (l l' : List Form) (c o d : ℕ) (Δ : Environment) → Forall₂ (λ f g. Same L (f o d Δ) (g o d Δ)) l l' → Same L (◌>>=◌ (the (get_elem? l c) 6 o) (λ form. form o d Δ)) (◌>>=◌ (the (get_elem? l' c) 6 o) (λ form. form o d Δ))
+  listed : (o d : ℕ) (Δ : Environment) (l l' : List Form) (c : ℕ) → Forall₂ (λ f g. Same L (f o d Δ) (g o d Δ)) l l' → Same L (◌>>=◌ (the (get_elem? l c) 6 o) (λ form. form o d Δ)) (◌>>=◌ (the (get_elem? l' c) 6 o) (λ form. form o d Δ))
   unfolding after the
-  listed l l' c o d Δ Forall₂.nil = λ at xs h. refl
-  listed l l' zero o d Δ (Forall₂.cons h hs) = h
-  listed l l' (suc c) o d Δ (Forall₂.cons h hs) = listed _ _ c o d Δ hs
+  listed o d Δ l l' c Forall₂.nil = λ at xs h. refl
+  listed o d Δ l l' zero (Forall₂.cons h hs) = h
+  listed o d Δ l l' (suc c) (Forall₂.cons h hs) = listed o d Δ _ _ c hs
 
   -- ---- statements
 
@@ -143,7 +143,7 @@ statement-same Σ Θ L (suc k) zero h h' d Δ at (x ∷ xs) l = absurd (omega ar
 statement-same Σ Θ L (suc k) (suc k') h h' d Δ at [] l = refl
 statement-same Σ Θ L (suc k) (suc k') h h' d Δ at (x ∷ xs) l =
     let n : ℕ = length xs in
-    listed n (forms Σ Θ (statement Σ Θ k)) (forms Σ Θ (statement Σ Θ k')) x at d Δ (form-same n Σ Θ (statement Σ Θ k) (statement Σ Θ k') (statement-same Σ Θ n k k' (omega arith) (omega arith)) (λ d Δ E. statement-inside E n Σ Θ k' d Δ) at d Δ) (suc at) xs (omega arith)
+    listed n at d Δ (forms Σ Θ (statement Σ Θ k)) (forms Σ Θ (statement Σ Θ k')) x (form-same n Σ Θ (statement Σ Θ k) (statement Σ Θ k') (statement-same Σ Θ n k k' (omega arith) (omega arith)) (λ d Δ E. statement-inside E n Σ Θ k' d Δ) at d Δ) (suc at) xs (omega arith)
 
 -- ---- images
 

@@ -1,4 +1,6 @@
 // What the program prints for an input.
+#![tactic(auto)]
+
 ghost use Rattle.std.specs.Prelude.{◌≡◌, List, [], ◌∷◌, ◌++◌, ℕ, suc, ◌+◌, ◌≤◌, length, take};
 ghost use Rattle.definitions.specs.Answer.{digits, printed};
 ghost use Rattle.printer.specs.Texts.{Holds};
