@@ -131,7 +131,7 @@ module _ {image : List ℕ} (a : Accepted image) (args : List ℕ) (l : Fitting 
 
   -- and what is stored stays, whether its value is dropped or not: the words stored later stand behind it.
   demand-2-stays : (size n m : ℕ) (c c' : Configuration) → Reached (step image) words size (start image args) n c → Reached (step image) words size c m c' → (later : List ℕ) × (c'.stored ≡ c.stored ++ later)
-  demand-2-stays = Whole.stays a args (Whole.fitting a args l)
+  demand-2-stays size n m c c' = Whole.stays a args (Whole.fitting a args l) size n c m c'
 
   -- Demand 3: every configuration that the machine reaches has a next step.
   demand-3-next : (size n : ℕ) (c : Configuration) → Reached (step image) words size (start image args) n c → step image c ≢ stuck
