@@ -1,0 +1,13 @@
+-- read_types: what `left` more types from `p` on answer is what all answer, and `left` falls: a bad type is the whole's fault, and at 0 the walk goes on at `p`. Assumes nothing.
+use Prim.Native.Nat.{◌≤◌}
+use lib.ListN.{length}
+use Rattle.definitions.specs.FirstFault.{type}
+use Rattle.checker.specs.declared.Walk.{Walk}
+use Rattle.checker.proofs.Loops as loops
+use Rattle.checker.proofs.head.read_types.Given as goal
+
+abbrev pub invariant-loop-left : goal.invariant-loop-left
+invariant-loop-left l = (l.at ≤ l.p) × ((l.p ≤ length l.s) × ((r : Walk) → loops.Times (type l.sigs) l.s l.left l.p r → loops.Times (type l.sigs) l.s l.count l.at r))
+
+abbrev pub decreases-loop-left : goal.decreases-loop-left
+decreases-loop-left l = l.left
