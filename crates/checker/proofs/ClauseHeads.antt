@@ -14,7 +14,7 @@ use Rattle.definitions.specs.Terms.{Ty, prd, cns, ext, Environment, Signature, O
 use Rattle.definitions.specs.Typing.{At, arguments, gains}
 use Rattle.definitions.specs.Layout.{kind_byte, number_byte, type_bytes, named}
 use Rattle.definitions.specs.Ends.{front, back, last}
-use Rattle.definitions.specs.Reader.{fault, got, refused, after, give, need, the, byte, item, spelt, times, count, known, expected}
+use Rattle.definitions.specs.Reader.{fault, got, refused, after, give, need, the, byte, item, spelt, times, known, expected}
 use Rattle.definitions.specs.FirstFault.{consumes, an_invoke, same_types, operations, clauses}
 use Rattle.exactness.proofs.Readers.{with'}
 use Rattle.exactness.proofs.Numbers.{item-enough}

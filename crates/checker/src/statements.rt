@@ -46,7 +46,7 @@ fn renewed(s: &[u8], env: [[u8; 2]; 32], width: usize, at: usize) -> [[u8; 2]; 3
 }
 
 // The statement at `at` of the region s, `depth` clauses deep, with an environment of `width` entries.
-#[cycle(bare_clauses_clauses_extern__last_new__onward_region_stmt_switch_)]
+#[cycle(walk)]
 pub(crate) fn stmt(
     image: &[u8],
     sigs: &[usize],
@@ -89,7 +89,7 @@ pub(crate) fn stmt(
 }
 
 // substitute, let or new, of which the code stands at `at`: where its remainder stands, and how many entries its environment has.
-#[cycle(bare_clauses_clauses_extern__last_new__onward_region_stmt_switch_)]
+#[cycle(walk)]
 fn onward(
     image: &[u8],
     sigs: &[usize],
@@ -112,7 +112,7 @@ fn onward(
 }
 
 // A statement with no remainder, of which the code stands at `at`: 6 where no form has that code.
-#[cycle(bare_clauses_clauses_extern__last_new__onward_region_stmt_switch_)]
+#[cycle(walk)]
 fn last(
     image: &[u8],
     sigs: &[usize],
@@ -138,7 +138,7 @@ fn last(
 }
 
 // extern, of which the operation stands at `at`.
-#[cycle(bare_clauses_clauses_extern__last_new__onward_region_stmt_switch_)]
+#[cycle(walk)]
 fn extern_(
     image: &[u8],
     sigs: &[usize],
@@ -166,7 +166,7 @@ fn extern_(
 }
 
 // new with its clauses, of which the code stands at `at`: where its remainder stands, and how many entries its environment has.
-#[cycle(bare_clauses_clauses_extern__last_new__onward_region_stmt_switch_)]
+#[cycle(walk)]
 fn new_(
     image: &[u8],
     sigs: &[usize],
@@ -210,7 +210,7 @@ fn new_(
 }
 
 // switch with its clauses, of which the code stands at `at`.
-#[cycle(bare_clauses_clauses_extern__last_new__onward_region_stmt_switch_)]
+#[cycle(walk)]
 fn switch_(
     image: &[u8],
     sigs: &[usize],
@@ -246,7 +246,7 @@ fn switch_(
 }
 
 // `many` clauses without symbol byte from `at` on, each with the environment of `width` entries.
-#[cycle(bare_clauses_clauses_extern__last_new__onward_region_stmt_switch_)]
+#[cycle(walk)]
 fn bare_clauses(
     image: &[u8],
     sigs: &[usize],
@@ -285,7 +285,7 @@ fn bare_clauses(
 }
 
 // The clauses from `at` on, one for each symbol of the signature at `sig`: each starts with the first `before` entries, its symbol's parameters, and the `behind` entries from `from` on.
-#[cycle(bare_clauses_clauses_extern__last_new__onward_region_stmt_switch_)]
+#[cycle(walk)]
 fn clauses(
     image: &[u8],
     sigs: &[usize],
@@ -348,7 +348,7 @@ fn clauses(
 }
 
 // The region of which the length field stands at `at`, filled by one statement.
-#[cycle(bare_clauses_clauses_extern__last_new__onward_region_stmt_switch_)]
+#[cycle(walk)]
 pub(crate) fn region(
     image: &[u8],
     sigs: &[usize],

@@ -1,6 +1,6 @@
 -- gather: after each turn the first `i` entries of `out` are those that the first `i` positions name, and `count - i` falls; at the end they are the types that the reader gave. Assumes nothing.
 use native.Mathlib.Omega.{arith}
-use Prim.Native.Nat.{◌+◌, ◌-◌, ◌<◌}
+use Prim.Native.Nat.{◌+◌, ◌<◌}
 use mathlib.Core.Path.{refl}
 use lib.ListN.{length, length-set}
 use Rattle.definitions.specs.Layout.{type_bytes}

@@ -1,6 +1,6 @@
 -- put_entries: after each turn the first `i` entries from `from` on stand behind the first `width`, and `n - i` falls, so at the end all `n` stand there. Assumes nothing.
 use native.Mathlib.Omega.{arith}
-use Prim.Native.Nat.{◌+◌, ◌-◌, ◌≤◌, ◌<◌}
+use Prim.Native.Nat.{◌+◌, ◌≤◌, ◌<◌}
 use lib.ListN.{length, length-set}
 use Rattle.checker.proofs.Filling as law
 use Rattle.checker.proofs.entries.put_entries.Goals as goal

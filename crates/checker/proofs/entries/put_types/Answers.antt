@@ -1,6 +1,6 @@
 -- put_types: after each turn the first `i` pairs of bytes from `at` on stand behind the first `width` entries, and `n - i` falls; at the end they are the types' bytes. Assumes nothing.
 use native.Mathlib.Omega.{arith}
-use Prim.Native.Nat.{◌+◌, ◌-◌, ◌<◌}
+use Prim.Native.Nat.{◌+◌, ◌<◌}
 use lib.ListN.{length, length-set}
 use Rattle.checker.proofs.Filling as law
 use Rattle.checker.proofs.entries.put_types.Goals as goal

@@ -1,6 +1,5 @@
 -- same_types: every entry before `i` agreed in both bytes, and `n - i` falls: a kind or number that differs makes the lists differ, and at `n` all agreed. Assumes nothing.
 use native.Mathlib.Omega.{arith}
-use Prim.Native.Nat.{◌-◌}
 use borrow.Author.Count.{below_more}
 use Rattle.checker.proofs.Filling as law
 use Rattle.checker.proofs.entries.same_types.Goals as goal

@@ -33,4 +33,4 @@ pub returns-in-6 : goal.returns-in-6
 returns-in-6 c = heads.operation-plain _ _ c.requires c.if-at-s.false exit 1 0 0 6 c.in-6.is refl refl refl (omega arith)
 
 pub returns-in_default : goal.returns-in_default
-returns-in_default c = heads.operation-unknown _ _ c.requires c.if-at-s.false c.in_default.rest.0.0.0.0.0.0.1 c.in_default.rest.0.0.0.0.0.1 c.in_default.rest.0.0.0.0.1 c.in_default.rest.0.0.0.1 c.in_default.rest.0.0.1 c.in_default.rest.0.1 c.in_default.rest.1
+returns-in_default c = heads.operation-unknown _ _ c.requires c.if-at-s.false (λ e. omega arith) (λ e. omega arith) (λ e. omega arith) (λ e. omega arith) (λ e. omega arith) (λ e. omega arith) (λ e. omega arith)

@@ -1,6 +1,5 @@
 -- switch_head: it refuses as the definition does: signature (3, 7), a last entry that is not its producer (8, by `last_is`), clause count (3, 9); else only the clauses are left to read. Assumes nothing.
 use native.Mathlib.Omega.{arith}
-use borrow.Author.Tests.{not-true, not-false}
 use lib.ListN.{get_or}
 use Rattle.checker.proofs.FormLaws as law
 use Rattle.checker.proofs.ClauseHeads as heads
@@ -13,7 +12,7 @@ pub last_is-requires : goal.last_is-requires
 last_is-requires c = c.requires.1.0
 
 pub returns-then-not-last_is : goal.returns-then-not-last_is
-returns-then-not-last_is c = heads.switch-other _ _ _ _ _ _ _ c.name.ensures _ c.in-Is.is _ c.last_is.ensures (not-true _ c.if-not-last_is.true)
+returns-then-not-last_is c = heads.switch-other _ _ _ _ _ _ _ c.name.ensures _ c.in-Is.is _ c.last_is.ensures c.if-not-last_is.true
 
 pub offset_bounds-sigs-t : goal.offset_bounds-sigs-t
 offset_bounds-sigs-t c = omega (arith, law.name-is _ _ _ _ c.name.ensures _ c.in-Is.is)
@@ -34,10 +33,10 @@ pub expect_byte-requires : goal.expect_byte-requires
 expect_byte-requires c = omega (arith, law.name-is _ _ _ _ c.name.ensures _ c.in-Is.is)
 
 pub returns-in-On : goal.returns-in-On
-returns-in-On c = heads.switch-goes _ _ _ _ _ _ _ c.name.ensures _ c.in-Is.is _ c.last_is.ensures (not-false _ c.if-not-last_is.false) _ c.expect_byte.ensures.s_value c.expect_byte.ensures.next _ c.in-On.is
+returns-in-On c = heads.switch-goes _ _ _ _ _ _ _ c.name.ensures _ c.in-Is.is _ c.last_is.ensures c.if-not-last_is.false _ c.expect_byte.ensures.s_value c.expect_byte.ensures.next _ c.in-On.is
 
 pub returns-in-Bad : goal.returns-in-Bad
-returns-in-Bad c = heads.switch-count _ _ _ _ _ _ _ c.name.ensures _ c.in-Is.is _ c.last_is.ensures (not-false _ c.if-not-last_is.false) _ c.expect_byte.ensures.s_value c.expect_byte.ensures.next _ _ c.in-Bad.is
+returns-in-Bad c = heads.switch-count _ _ _ _ _ _ _ c.name.ensures _ c.in-Is.is _ c.last_is.ensures c.if-not-last_is.false _ c.expect_byte.ensures.s_value c.expect_byte.ensures.next _ _ c.in-Bad.is
 
 pub returns-in-Not : goal.returns-in-Not
 returns-in-Not c = heads.switch-signature _ _ _ _ _ _ _ c.name.ensures _ _ c.in-Not.is

@@ -1,7 +1,6 @@
 -- place_labels: after each turn the table has where the first `i` lists stand, and the others stand from `p` on, by `skip_parameters`; `count - i` falls, and at the end all are placed. Assumes nothing.
 use native.Mathlib.Omega.{arith}
 use mathlib.Core.Path.{refl}
-use Prim.Native.Nat.{◌-◌}
 use lib.ListN.{length-set}
 use Rattle.checker.specs.Laid.{parameters_bytes}
 use Rattle.checker.proofs.Places as law

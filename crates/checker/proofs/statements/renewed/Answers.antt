@@ -14,10 +14,10 @@ pub overflow_sub-width : goal.overflow_sub-width
 overflow_sub-width c = let w = c.requires.1.place (λ e. omega arith) in omega (arith, w.1)
 
 pub bounds-s-at-in_default : goal.bounds-s-at-in_default
-bounds-s-at-in_default c = let w = c.requires.1.place c.in_default.rest.0.1 in omega (arith, w.0)
+bounds-s-at-in_default c = let w = c.requires.1.place (λ e. omega arith) in omega (arith, w.0)
 
 pub overflow_sub-width-in_default : goal.overflow_sub-width-in_default
-overflow_sub-width-in_default c = let w = c.requires.1.place c.in_default.rest.0.1 in omega (arith, w.1)
+overflow_sub-width-in_default c = let w = c.requires.1.place (λ e. omega arith) in omega (arith, w.1)
 
 pub returns-in-1 : goal.returns-in-1
 returns-in-1 c = laws.renewed-named c.args.s.now c.args.env c.args.width c.args.at _ c.in-1.is c.gather.ensures
@@ -26,4 +26,4 @@ pub returns-in-3 : goal.returns-in-3
 returns-in-3 c = laws.renewed-produced c.args.s.now c.args.env c.args.width c.args.at _ c.in-3.is (λ Δ h. c.push.ensures.holds Δ (prd _) h c.prd-entry.ensures)
 
 pub returns-in_default : goal.returns-in_default
-returns-in_default c = laws.renewed-consumed c.args.s.now c.args.env c.args.width c.args.at _ c.in_default.rest.0.1 c.in_default.rest.1 (λ Δ h. c.push-in_default.ensures.holds Δ (cns _) h c.cns-entry.ensures)
+returns-in_default c = laws.renewed-consumed c.args.s.now c.args.env c.args.width c.args.at _ (λ e. omega arith) (λ e. omega arith) (λ Δ h. c.push-in_default.ensures.holds Δ (cns _) h c.cns-entry.ensures)

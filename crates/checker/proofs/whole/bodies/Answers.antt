@@ -1,6 +1,5 @@
 -- bodies: what the bodies of the labels from `l` on answer from `p` on is what all answer, and fewer labels are left each turn: a bad `region` is the whole's fault, and after the last it goes on at `p`. Assumes nothing.
 use native.Mathlib.Omega.{arith}
-use Prim.Native.Nat.{◌-◌}
 use lib.ListN.{get_or}
 use Rattle.checker.proofs.Loops as loops
 use Rattle.checker.proofs.BodyLaws as law
