@@ -14,5 +14,3 @@ pub mod FormLaws
 pub mod AfterLaws
 pub mod RunLaws
 pub mod AcceptedLaws
-mod Cut
-mod Part
