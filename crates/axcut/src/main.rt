@@ -1,13 +1,33 @@
 // The program: an image from standard input, two lines to standard output.
 #![tactic(auto)]
 
-use libc::{STDIN_FILENO, STDOUT_FILENO};
+ghost use Rattle.std.specs.Prelude.{◌≤◌, length, IfOk};
 
-fn main() {
-    let mut input = [0u8; 16385];
-    let size = io::read_full(STDIN_FILENO, &mut input);
-    let text = printer::lines(&input[..size]);
+use std::io;
+use std::io::{Read, Write};
+
+// Reads until the buffer is full or the input ends: how many bytes of the buffer were read.
+fn read_full<R: Read>(input: &mut R, buffer: &mut [u8]) -> io::Result<usize>
+    ensures { IfOk result (λ size. size ≤ length buffer.new) }
+{
+    let mut size: usize = 0;
+    while size < buffer.len() {
+        let n = input.read(&mut buffer[size..])?;
+        if n == 0 {
+            break;
+        }
+        size += n;
+    }
+    Ok(size)
+}
+
+fn main(rt: HostRuntime) -> io::Result<()> {
+    let mut buffer = [0u8; 16385];
+    let mut input = rt.reader();
+    let size = read_full(&mut input, &mut buffer)?;
+    let text = printer::lines(&buffer[..size]);
     let length = text.length;
     let bytes = text.bytes;
-    io::write_all(STDOUT_FILENO, &bytes[..length]);
+    let mut output = rt.stdout();
+    output.write_all(&bytes[..length])
 }
