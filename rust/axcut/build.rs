@@ -6,23 +6,17 @@ use std::path::{Path, PathBuf};
 use std::process::Command;
 use std::time::SystemTime;
 
-/// What the library is built from, in the repository.
-const SOURCES: [&str; 7] = [
-    "crates.txt",
-    "crates/definitions",
-    "crates/exactness",
-    "crates/lockstep",
-    "crates/checker",
-    "crates/runner",
-    "crates/boundary",
-];
+/// The crates that the library is built from.
+const CRATES: [&str; 6] = ["definitions", "exactness", "lockstep", "checker", "runner", "boundary"];
+/// The folders of a crate that have its sources; the toolchain keeps its own work beside them.
+const FOLDERS: [&str; 3] = ["src", "specs", "proofs"];
 /// Where `./build-lib` puts the library.
 const FOLDER: &str = "target/staticlib";
 
 fn main() {
     let repository = repository();
     let library = repository.join(FOLDER).join("libboundary.a");
-    let sources = SOURCES.map(|source| repository.join(source));
+    let sources = sources(&repository);
     refuse_other_processors();
     if !is_newer(&library, &sources) {
         build(&repository);
@@ -40,6 +34,15 @@ fn repository() -> PathBuf {
     let here = std::env::var_os("CARGO_MANIFEST_DIR").expect("cargo names the crate's folder");
     let root = Path::new(&here).join("../..");
     root.canonicalize().expect("the crate stands in its repository")
+}
+
+/// What the library is built from: the list of the crates, and the folders of each that are there.
+fn sources(repository: &Path) -> Vec<PathBuf> {
+    let folders = CRATES.iter().flat_map(|name| {
+        let folder = repository.join("crates").join(name);
+        FOLDERS.map(|inner| folder.join(inner)).into_iter().filter(|inner| inner.exists())
+    });
+    std::iter::once(repository.join("crates.txt")).chain(folders).collect()
 }
 
 /// The library holds code for one processor, and elsewhere the linker's words would not say so.

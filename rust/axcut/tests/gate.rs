@@ -25,12 +25,14 @@ impl Numbers {
     fn log(self) -> String {
         let mut log = String::new();
         for i in 0..self.crates {
-            writeln!(log, "rt: crate_{i} proved ({i} s)").expect("written");
+            writeln!(log, "rt: crate_{i} proved").expect("written");
         }
         for i in 0..self.edits {
-            let refused = "refused, as it must be (first at proofs/Rows.antt:1:2; 3 s)";
-            writeln!(log, "rt: must-fail crate_0/edit_{i}: {refused}").expect("written");
+            let refused = "refused, as it must be: ./proofs/Rows.antt:1:2: error: `rows-hold`";
+            writeln!(log, "rt: must-fail crate_0/edit_{i}.edit: {refused}").expect("written");
         }
+        let well = "rt: ok; handles allowed: none; must-fail edits:";
+        writeln!(log, "{well} {} refused; all was done in this run", self.edits).expect("written");
         writeln!(log, "the crates: {} passed", self.crates + self.edits).expect("written");
         for tests in [4, self.tests - 4] {
             let rest = "0 failed; 0 ignored; 0 measured; 0 filtered out; finished in 0.01s";
@@ -81,6 +83,15 @@ fn more_of_each_passes() {
     assert!(verdict("more", &more.log()).0);
 }
 
+/// A crate that rt proved in an earlier run, and an edit that it refuses at a function.
+#[test]
+fn what_is_kept_and_what_is_refused_in_a_source_count() {
+    let kept = "crate_1 is kept: an earlier run on this machine proved the same files";
+    let log = LEAST.log().replacen("crate_1 proved", kept, 1);
+    assert!(verdict("kept", &log).0);
+    assert!(verdict("source", &log.replacen("be: ./proofs/", "be: note: src/", 1)).0);
+}
+
 #[test]
 fn one_crate_edit_or_test_fewer_is_refused() {
     refused("crate", &Numbers { crates: 1, ..LEAST }.log(), "1 crates, at least 2");
@@ -102,7 +113,11 @@ fn a_log_that_does_not_add_up_is_refused() {
     refused("unproved", &log.replacen("crate_1 proved", "crate_1 NOT PROVED", 1), unproved);
     let unrefused = "rt counts 5, its lines show 2 crates and 2 edits refused for a fact";
     refused("unrefused", &log.replacen("refused, as it must be", "NOT REFUSED", 1), unrefused);
-    refused("unreadable", &log.replacen("first at proofs/", "first at specs/", 1), unrefused);
+    refused("unreadable", &log.replacen("be: ./proofs/", "be: ./specs/", 1), unrefused);
+    let unfit = "be (only because a proof file names what the edit took away): ./proofs/";
+    refused("unfit", &log.replacen("be: ./proofs/", unfit, 1), unrefused);
+    refused("not well", &log.replacen("rt: ok", "rt: FAILED", 1), "rt has no line that all is well");
+    refused("bad", &log.replacen(" refused; all", " refused, 1 bad; all", 1), "an edit is bad");
     refused("unclosed", &log.replacen("the crates: ", "", 1), "rt did not pass");
     refused("empty", "", "rt did not pass");
 }

@@ -26,10 +26,12 @@ const WORDS: usize = 1_024;
 /// what it was built from. After a proof of the same sources, as the gate's, it has nothing to do.
 static PROGRAM: LazyLock<PathBuf> = LazyLock::new(|| {
     let repository = Path::new(env!("CARGO_MANIFEST_DIR")).join("../..");
-    let built = Command::new("rt").args(["check", "axcut"]).current_dir(&repository).output();
-    let Output { status, stdout, .. } = built.expect("the toolchain");
-    assert!(status.success(), "the program was not built: {}", String::from_utf8_lossy(&stdout));
-    repository.join("target/bin/axcut")
+    let folder = repository.join("crates/axcut");
+    // it is run too, here on nothing
+    let built = Command::new("rt").arg("run").current_dir(&folder).stdin(Stdio::null()).output();
+    let Output { status, stderr, .. } = built.expect("the toolchain");
+    assert!(status.success(), "the program was not built: {}", String::from_utf8_lossy(&stderr));
+    folder.join("out/axcut")
 });
 
 /// What the program writes for an input.

@@ -48,7 +48,7 @@ impl Unbuilt {
         let folder = Path::new(env!("CARGO_TARGET_TMPDIR")).join(format!("run {name}"));
         let _ = fs::remove_dir_all(&folder); // what a test that was broken off left there
         let unbuilt = Self { folder };
-        fs::create_dir_all(unbuilt.folder.join("crates")).expect("a folder of its own");
+        fs::create_dir_all(unbuilt.folder.join("crates/axcut")).expect("a folder of its own");
         fs::copy(repository().join("run"), unbuilt.folder.join("run")).expect("copied");
         fs::write(unbuilt.folder.join("crates.txt"), "axcut:\n").expect("written");
         fs::write(unbuilt.source(), "fn main() {}\n").expect("written");
@@ -141,7 +141,7 @@ fn a_build_is_announced_and_nothing_else_is() {
     let again = unbuilt.run(&["an image"]);
     assert_eq!((printed(&again), text(&again.stderr)), ("5\n", ""));
     let asked = fs::read_to_string(unbuilt.folder.join("asked")).expect("asked");
-    assert_eq!(asked, "check axcut\ncheck axcut\n");
+    assert_eq!(asked, "run\nrun\n");
 }
 
 #[test]
