@@ -14,3 +14,4 @@ pub mod FormLaws
 pub mod AfterLaws
 pub mod RunLaws
 pub mod AcceptedLaws
+mod Part
