@@ -1,5 +1,4 @@
 -- with_number: after each turn the first `i` figures stand behind the text, and `count - i` falls; a number has at most 20 figures, so 21 bytes are room for it and the byte behind. Assumes nothing.
-use Prim.Native.Nat.{◌-◌}
 use native.Mathlib.Omega.{arith}
 use lib.Seq.{paste-zero}
 use Rattle.printer.proofs.TextLaws as law
