@@ -131,6 +131,12 @@ goes_on (suc (suc (suc zero))) l h = lets refl
 goes_on (suc (suc (suc (suc zero)))) l h = news refl
 goes_on (suc (suc (suc (suc (suc n))))) l h = absurd (omega arith)
 
+-- codes 1, 3 and 4
+pub goes_on_codes : (code : ℕ) → 1 ≤ code → code ≤ 4 → (code ≡ 2 → ⊥) → GoesOn code
+goes_on_codes zero l h n = absurd (omega arith)
+goes_on_codes (suc zero) l h n = substitutes refl
+goes_on_codes (suc (suc m)) l h n = goes_on (suc (suc m)) (omega arith) h
+
 pub goes-off : (code : ℕ) → (code ≡ 1 → ⊥) → (3 ≤ code → code ≤ 4 → ⊥) → GoesOn code → ⊥
 goes-off code m n (substitutes e) = m e
 goes-off code m n (lets e) = n (omega arith) (omega arith)

@@ -2,7 +2,6 @@
 use Prim.Native.Nat.{◌+◌}
 use native.Mathlib.Omega.{arith}
 use mathlib.Core.Path.{sym}
-use Rattle.checker.specs.Statements.{substitutes}
 use Rattle.checker.proofs.Loops as loops
 use Rattle.checker.proofs.RegionLaws as regions
 use Rattle.checker.proofs.StatementLaws as statements
@@ -227,7 +226,7 @@ pub stmt-returns-in_default : goal.stmt-returns-in_default
 stmt-returns-in_default t c = record { within = counts.within-later c.args.at c.loop-p.p c.args.s.now c.last.result c.loop-p.invariant.1.0 c.last.ensures.within; statement_is = c.loop-p.invariant.1.1.1 _ c.last.ensures.statement_is }
 
 pub stmt-onward-requires : goal.stmt-onward-requires
-stmt-onward-requires t c = (omega arith, (elim c.in-1-1.branch [ stmt-in-1-1 w ↦ substitutes (omega arith) | stmt-in_default+else-code-lt3+then-code-lt5 w ↦ statements.goes_on _ (omega arith) (omega arith) ], (omega arith, (c.loop-p.invariant.0, (c.requires.1.1.0, (c.requires.1.1.1.0, c.requires.1.1.1.1))))))
+stmt-onward-requires t c = (omega arith, (statements.goes_on_codes _ (grind arith) (grind arith) (grind arith), (omega arith, (c.loop-p.invariant.0, (c.requires.1.1.0, (c.requires.1.1.1.0, c.requires.1.1.1.1))))))
 
 pub stmt-renewed-next-requires : goal.stmt-renewed-next-requires
 stmt-renewed-next-requires t c = let f = statements.onward-facts c.args.image.now c.args.sigs.now c.args.labels.now c.args.s.now c.args.depth c.loop-p.e c.loop-p.w c.loop-p.p _ c.onward.ensures _ _ c.in-To.is in (omega (arith, f.0, f.1), f.2)
