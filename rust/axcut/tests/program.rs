@@ -23,7 +23,7 @@ const FUEL: u32 = 100_000;
 const WORDS: usize = 1_024;
 
 /// The program. The toolchain is asked for it, once for all tests: a file that is there does not say
-/// what it was built from. After a proof of the same sources, as the gate's, it has nothing to do.
+/// what it was built from. After a proof of the same sources, as the gate's, it has little to do.
 static PROGRAM: LazyLock<PathBuf> = LazyLock::new(|| {
     let repository = Path::new(env!("CARGO_MANIFEST_DIR")).join("../..");
     let folder = repository.join("crates/axcut");

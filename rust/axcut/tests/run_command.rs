@@ -62,15 +62,21 @@ impl Unbuilt {
 
     /// Runs its `./run`, from the folder that it stands in, with the stand-in for the toolchain.
     fn run(&self, arguments: &[&str]) -> Output {
+        self.bash().arg(self.folder.join("run")).args(arguments).output().expect("a shell")
+    }
+
+    /// Runs a line of the shell there, with the stand-in for the toolchain.
+    fn shell(&self, line: &str) -> Output {
+        self.bash().args(["-c", line]).output().expect("a shell")
+    }
+
+    /// A shell in the folder, which finds the stand-in for the toolchain.
+    fn bash(&self) -> Command {
         let stand_in = Path::new(env!("CARGO_MANIFEST_DIR")).join("tests/stand_in");
         let path = std::env::var("PATH").expect("a path");
-        Command::new("bash")
-            .arg(self.folder.join("run"))
-            .args(arguments)
-            .current_dir(&self.folder)
-            .env("PATH", format!("{}:{path}", stand_in.display()))
-            .output()
-            .expect("a shell")
+        let mut bash = Command::new("bash");
+        bash.current_dir(&self.folder).env("PATH", format!("{}:{path}", stand_in.display()));
+        bash
     }
 
     /// Whether the toolchain was asked for anything.
@@ -111,6 +117,17 @@ fn a_search_path_for_folders_changes_nothing() {
     let line = format!("export CDPATH=$PWD; bash '{name}/run' '{name}/images/a.axcut'");
     let output = shell(above.expect("a folder above"), &line);
     assert_eq!(printed(&output), "0 23\n40 2 0 7\n");
+}
+
+/// A folder on that path with a folder of the program's own name is not where the program is built.
+#[test]
+fn a_search_path_to_another_program_changes_nothing() {
+    let unbuilt = Unbuilt::new("searched");
+    let other = Unbuilt::new("found");
+    let line = format!("export CDPATH='{}'; bash run 'an image'", other.folder.display());
+    let output = unbuilt.shell(&line);
+    assert_eq!((printed(&output), text(&output.stderr)), ("5\n", ANNOUNCED));
+    assert!(unbuilt.is_asked() && !other.is_asked(), "another program was asked for");
 }
 
 #[test]
