@@ -7,6 +7,7 @@ use std::io;
 use std::io::{Read, Write};
 
 // Reads until the buffer is full or the input ends: how many bytes of the buffer were read.
+// Not `read_exact`, which fails at an early end, nor `read_to_end`, which allocates.
 fn read_full<R: Read>(input: &mut R, buffer: &mut [u8]) -> io::Result<usize>
     ensures { IfOk result (λ size. size ≤ length buffer.new) }
 {
@@ -23,11 +24,7 @@ fn read_full<R: Read>(input: &mut R, buffer: &mut [u8]) -> io::Result<usize>
 
 fn main(rt: HostRuntime) -> io::Result<()> {
     let mut buffer = [0u8; 16385];
-    let mut input = rt.reader();
-    let size = read_full(&mut input, &mut buffer)?;
+    let size = read_full(&mut rt.reader(), &mut buffer)?;
     let text = printer::lines(&buffer[..size]);
-    let length = text.length;
-    let bytes = text.bytes;
-    let mut output = rt.stdout();
-    output.write_all(&bytes[..length])
+    rt.stdout().write_all(text.as_bytes())
 }

@@ -1,81 +1,89 @@
 -- The bodies, one for each label. Assumes nothing.
-use Prim.Native.Nat.{ℕ, zero, suc, ◌+◌, ◌-◌, ◌≤◌, ◌<◌}
-use mathlib.Core.Path.{◌≡◌, refl, sym}
+use Prim.Native.Nat.{ℕ, suc, ◌+◌, ◌-◌, ◌≤◌, ◌<◌}
+use mathlib.Core.Path.{◌≡◌, refl}
 use mathlib.Core.List.{List, [], ◌∷◌, ◌++◌, flat_map}
-use native.Mathlib.Nat.{zero-add}
+use mathlib.Core.Logic.{∥∥₁_elim}
 use native.Mathlib.Numerals.{add-one}
 use native.Mathlib.Omega.{arith}
-use lib.ListN.{length, get_or, take, drop}
+use denote.Struct.Props.{props}
+use lib.ListN.{length, get_or, drop}
+use Rattle.std.proofs.Math.ListN.{drop_of_length-le}
+use Rattle.std.specs.Prelude.{Option, Some, None, Ok, Err}
+use Rattle.std.specs.Option.{IsSome}
 use Rattle.definitions.specs.Terms.{Environment, Signature}
+use Rattle.definitions.specs.Typing.{At}
 use Rattle.definitions.specs.Layout.{type_bytes}
 use Rattle.definitions.specs.Reader.{in_region}
 use Rattle.definitions.specs.FirstFault.{statement, bodies}
-use Rattle.exactness.proofs.Readers.{with'}
-use Rattle.checker.specs.declared.Walk.{Walk}
-use Rattle.checker.specs.declared.Walk.TheVariants.{On, Bad}
-use Rattle.checker.specs.Shown.{forget, shown}
-use Rattle.checker.specs.Laid.{Laid, Holds, Placed, Known, parameters_bytes, signature_bytes}
+use Rattle.checker.specs.declared.env.Env.{Env}
+use Rattle.checker.specs.declared.region.Region.{Region}
+use Rattle.checker.specs.declared.faults.Fault.{Fault}
+use Rattle.checker.specs.Shown.{Walk, forget, shown}
+use Rattle.checker.specs.Laid.{Laid, Placed, Known, ParametersAt, parameters_bytes}
+use Rattle.checker.specs.Entries.{Held, HeldOr}
+use Rattle.checker.specs.Regions.{Heads}
 use Rattle.checker.specs.Statements.{RegionIs}
 use Rattle.checker.specs.Bodies.{LabelsFit, BodiesIs}
-use Rattle.checker.proofs.Loops.{forget-after}
-use Rattle.checker.proofs.Counts.{after-bad, after_on}
-use Rattle.checker.proofs.Lists.{Parameters, parameters-at}
-use Rattle.checker.proofs.Places.{entry}
-use Rattle.checker.proofs.FormLaws.{list_at, count-inside}
+use Rattle.checker.proofs.Loops.{forget-after, after-bad, after_on}
+use Rattle.checker.proofs.Lists.{parameters-at}
+use Rattle.checker.proofs.PlaceLaws.{entry, list-at}
 
 -- ---- the environment of a label
 
--- what types put into an array from its start say of a list that stands at an offset
-pub label-held : (s : List ℕ) (list : ℕ) (env : List (List ℕ))
-    → ((Δ Γ : Environment) → Holds [] 0 Δ → take (get_or s list 0 + get_or s list 0) (drop (list + 1) s) ≡ flat_map type_bytes Γ → length Γ ≡ get_or s list 0 → Holds env (0 + get_or s list 0) (Δ ++ Γ))
-    → (Γ : Environment) → Laid s list (parameters_bytes Γ) → Holds env (get_or s list 0) Γ
-label-held s list env f Γ l =
-    let q : Parameters s list Γ = parameters-at s list Γ l in
-    rw zero-add at (f [] Γ refl (rw q.count q.types) (sym q.count))
+-- what types put into an empty environment say of a list that stands at an offset
+pub label-held : (image : List ℕ) (list : ℕ) (bytes : List ℕ) (r : Option Env) (env : Env) → env.width ≡ 0
+    → ((Γ : Environment) → Laid image list (parameters_bytes Γ) → bytes ≡ flat_map type_bytes Γ)
+    → ((Δ Γ : Environment) → Held env Δ → bytes ≡ flat_map type_bytes Γ → HeldOr r (Δ ++ Γ))
+    → (Γ : Environment) → Laid image list (parameters_bytes Γ) → HeldOr r Γ
+label-held image list bytes r env e types held Γ w = held [] Γ (rw e refl) (types Γ w)
 
--- a label's list is inside the image, and no longer than an environment
-pub label_inside : {image labels : List ℕ} → Known parameters_bytes image labels → LabelsFit image labels → (l : ℕ) → l < length labels
-    → (get_or image (get_or labels l 0) 0 ≤ 32) × (get_or labels l 0 + 1 + (get_or image (get_or labels l 0) 0 + get_or image (get_or labels l 0) 0) ≤ length image)
-label_inside {image} {labels} k f l h = (f.fit l h, count-inside image (get_or labels l 0) (list_at k l h))
+module _ (image : List ℕ) (list : ℕ) (r : Option Env) (held : (Γ : Environment) → Laid image list (parameters_bytes Γ) → HeldOr r Γ) where
+  -- no more types than an environment holds fit in one
+  types-fit : get_or image list 0 ≤ 32 → ParametersAt image list → IsSome r
+  types-fit n w = go r (held w.parameters w.laid)
+    where
+      go : (r : Option Env) → HeldOr r w.parameters → IsSome r
+      go (Some env) h = refl
+      go None h = absurd (omega (arith, parameters-at image list w.parameters w.laid))
+
+pub env-fits : (image labels : List ℕ) (l : ℕ) → l < length labels → ∥ Known parameters_bytes image labels ∥₁ → LabelsFit image labels
+    → (r : Option Env) → ((Γ : Environment) → Laid image (get_or labels l 0) (parameters_bytes Γ) → HeldOr r Γ) → IsSome r
+env-fits image labels l h k f r held = ∥∥₁_elim k (search props) λ k. types-fit image (get_or labels l 0) r held (f.fit l h) (list-at image labels l h k)
 
 -- ---- the loop
 
-drop_past : {A : Type 0} (l : List A) (i : ℕ) → length l ≤ i → drop i l ≡ []
-drop_past [] zero h = refl
-drop_past [] (suc i) h = refl
-drop_past (a ∷ l) zero h = absurd (omega arith)
-drop_past (a ∷ l) (suc i) h = drop_past l i (omega arith)
+-- the answer of the bodies of the labels from l on, which stand from p on; from label 0 on these are all the bodies
+pub record BodiesFrom (g : Region) (l p : ℕ) (r : Walk) : Type 0 where
+  pub is : (Σ : List Signature) (Θ : List Environment) (f : ℕ) → g.depth ≡ 0 → Heads g Σ Θ → length g.bytes.now - p ≤ f
+      → forget (bodies Σ Θ f (drop l Θ) p (drop p g.bytes.now)) ≡ shown g.bytes.now r
 
--- the answer of the bodies of the labels from l on, which stand from p on
-pub record BodiesFrom (image sigs labels : List ℕ) (l p : ℕ) (r : Walk) : Type 0 where
-  pub is : (Σ : List Signature) (Θ : List Environment) (f : ℕ) → Placed signature_bytes image sigs Σ → Placed parameters_bytes image labels Θ → length image - p ≤ f
-      → forget (bodies Σ Θ f (drop l Θ) p (drop p image)) ≡ shown image r
-
-module _ (image sigs labels : List ℕ) where
-  -- from label 0 on these are all the bodies
-  pub bodies-whole : (at : ℕ) (r : Walk) → BodiesFrom image sigs labels 0 at r → BodiesIs image sigs labels at r
+module _ (g : Region) where
+  pub bodies-whole : (at : ℕ) (r : Walk) → BodiesFrom g 0 at r → BodiesIs g at r
   bodies-whole at r b = record { is = b.is }
 
   -- no label is left
-  pub bodies-none : (l p : ℕ) → length labels ≤ l → BodiesFrom image sigs labels l p (On p)
+  pub bodies-none : (l p : ℕ) → length g.labels.now ≤ l → BodiesFrom g l p (Ok p)
   unfolding shown
-  bodies-none l p h = record { is = λ Σ Θ f u v b. rw (drop_past Θ l (omega (arith, v.many))) }
+  bodies-none l p h = record { is = λ Σ Θ f d w b. rw (drop_of_length-le Θ {i = l} (omega (arith, w.labelled.many))) }
 
-  module _ (l p : ℕ) (below : l < length labels) (env : List (List ℕ)) (q : Walk)
-      (held : (Γ : Environment) → Laid image (get_or labels l 0) (parameters_bytes Γ) → Holds env (get_or image (get_or labels l 0) 0) Γ)
-      (h : RegionIs image sigs labels image env (get_or image (get_or labels l 0) 0) 0 p q) where
+  module _ (l p : ℕ) (below : l < length g.labels.now) (q : Option Env) (env : Env) (u : q ≡ Some env)
+      (held : (Γ : Environment) → Laid g.image.now (get_or g.labels.now l 0) (parameters_bytes Γ) → HeldOr q Γ) where
+    -- the label's types are in the environment
+    held-here : (Θ : List Environment) (Γ : Environment) → Placed parameters_bytes g.image.now g.labels.now Θ → At Θ l Γ → Held env Γ
+    held-here Θ Γ w a = rw u at (held Γ (w.laid l Γ a))
+
     -- the next body's region is bad, or it goes on to the others
-    pub bodies-bad : (k o : ℕ) → q ≡ Bad k o → BodiesFrom image sigs labels l p (Bad k o)
-    bodies-bad k o e = record {
-      is = λ Σ Θ f u v b.
-          with' (entry Θ l (omega (arith, v.many))) λ w.
-          rw w.2 (after-bad (in_region (statement Σ Θ f 0 w.0) p (drop p image)) _ image q (h.is Σ Θ w.0 f u v (held w.0 (v.laid l w.0 w.1)) b) k o e);
+    pub bodies-bad : (e : Fault) → RegionIs g env p (Err e) → (r : Walk) → r ≡ Err e → BodiesFrom g l p r
+    bodies-bad e h r i = record {
+      is = λ Σ Θ f d w b.
+          let (Γ, a, n) = entry Θ l (omega (arith, w.labelled.many)) in
+          rw n (after-bad (in_region (statement Σ Θ f 0 Γ) p (drop p g.bytes.now)) _ g.bytes.now e (rw d at (h.is Σ Θ Γ f w (held-here Θ Γ w.labelled a) b)) r i);
     }
 
-    pub bodies-on : (e : ℕ) → q ≡ On e → p ≤ e → (r : Walk) → BodiesFrom image sigs labels (l + 1) e r → BodiesFrom image sigs labels l p r
-    bodies-on e g m r t = record {
-      is = λ Σ Θ f u v b.
-          with' (entry Θ l (omega (arith, v.many))) λ w.
-          rw w.2 (after_on (in_region (statement Σ Θ f 0 w.0) p (drop p image)) _ image q (h.is Σ Θ w.0 f u v (held w.0 (v.laid l w.0 w.1)) b) e g r λ s.
-          rw (forget-after (bodies Σ Θ f (drop (suc l) Θ) e (drop e image)) (λ ss. s ∷ ss)) (rw (add-one l) at (t.is Σ Θ f u v (omega arith))));
+    pub bodies-on : (e : ℕ) → RegionIs g env p (Ok e) → p ≤ e → (r : Walk) → BodiesFrom g (l + 1) e r → BodiesFrom g l p r
+    bodies-on e h m r t = record {
+      is = λ Σ Θ f d w b.
+          let (Γ, a, n) = entry Θ l (omega (arith, w.labelled.many)) in
+          rw n (after_on (in_region (statement Σ Θ f 0 Γ) p (drop p g.bytes.now)) _ g.bytes.now e (rw d at (h.is Σ Θ Γ f w (held-here Θ Γ w.labelled a) b)) r λ s.
+          rw (forget-after (bodies Σ Θ f (drop (suc l) Θ) e (drop e g.bytes.now)) (λ ss. s ∷ ss)) (rw (add-one l) at (t.is Σ Θ f d w (omega arith))));
     }

@@ -1,133 +1,214 @@
--- switch and new with their clauses, in each case. Assumes nothing.
-use Prim.Native.Nat.{ℕ, suc, ◌+◌, ◌-◌, ◌≤◌, ◌<◌}
+-- extern, new and switch with their clauses, in each case.
+use Prim.Native.Nat.{ℕ, zero, suc, ◌+◌, ◌-◌, ◌≤◌, ◌<◌}
 use mathlib.Core.Path.{◌≡◌, refl, ◌∙◌}
-use mathlib.Core.List.{List, [], ◌∷◌, ◌++◌}
+use mathlib.Core.List.{List, [], ◌∷◌, ◌++◌, map, append-nil}
+use mathlib.Core.Bool.{true, false, cond}
+use mathlib.Core.Logic.{∥∥₁_map}
 use native.Mathlib.Omega.{arith}
-use lib.ListN.{length, get_or, drop, length-append}
+use lib.ListN.{length, get_or, take, drop, replicate, length-drop, length-replicate}
+use lib.Seq.{take-length}
 use borrow.Author.Tests.{le-leb, lt-leb}
+use Rattle.std.specs.Prelude.{Ok, Err, Option, Some, None}
 use Rattle.definitions.specs.Limits.{widest}
-use Rattle.definitions.specs.Terms.{cns, Environment, Signature, Clauses, new}
-use Rattle.definitions.specs.Layout.{named}
+use Rattle.definitions.specs.Terms.{Ty, cns, ext, Environment, Signature, Clauses, extern, new}
+use Rattle.definitions.specs.Terms as Terms
+use Rattle.definitions.specs.Typing.{All, arguments, gains}
+use Rattle.definitions.specs.Layout.{named, type_bytes}
 use Rattle.definitions.specs.Ends.{front, back}
-use Rattle.definitions.specs.Reader.{Read, fault, refused, after, need, ◌>>=◌, ◌>>◌, give}
-use Rattle.definitions.specs.FirstFault.{clauses, fits, a_new, a_switch, statement}
+use Rattle.definitions.specs.Reader.{Read, after, need, times, ◌>>=◌, ◌>>◌, give}
+use Rattle.definitions.specs.FirstFault.{argument, clauses, fits, an_extern, a_new, a_switch, statement}
 use Rattle.exactness.proofs.Readers.{with'}
-use Rattle.checker.specs.declared.Walk.{Walk}
-use Rattle.checker.specs.declared.Walk.TheVariants.{On, Bad}
-use Rattle.checker.specs.declared.Name.{Name}
-use Rattle.checker.specs.declared.Name.TheVariants.{Is, Not}
-use Rattle.checker.specs.declared.Cases.{Cases}
-use Rattle.checker.specs.declared.Cases.TheVariants.{Of, Wrong}
-use Rattle.checker.specs.declared.Step.TheVariants.{To, Fails}
-use Rattle.checker.specs.Shown.{forget, shown}
-use Rattle.checker.specs.Laid.{Holds, Placed, Known, parameters_bytes, signature_bytes, SignatureAt}
-use Rattle.checker.specs.Forms.{Inner, NewIs, new_goes, new_fails, SwitchIs, switch_goes, switch_fails}
-use Rattle.checker.specs.Statements.{ClausesAre, NewWhole, new_on, new_bad, SwitchWhole}
+use Rattle.checker.specs.declared.faults.Fault.{Fault}
+use Rattle.checker.specs.declared.faults.Refusal.TheVariants.{Wide}
+use Rattle.checker.specs.declared.codes.Operation.{Operation}
+use Rattle.checker.specs.declared.codes.Operation.TheVariants.{Lit, Add, Sub, Mul, Ifz, Less, Exit}
+use Rattle.checker.specs.declared.env.Env.{Env}
+use Rattle.checker.specs.declared.region.Region.{Region}
+use Rattle.checker.specs.Faults.{at as fault-at}
+use Rattle.checker.specs.Codes.{Means, argument_count, clause_count, gaining}
+use Rattle.checker.specs.Shown.{forget, shown, Walk}
+use Rattle.checker.specs.Laid.{Known, SignatureAt, signature_bytes}
+use Rattle.checker.specs.Entries.{Held, HeldOr}
+use Rattle.checker.specs.Readers.{OperationIs, operation_is, operation_not}
+use Rattle.checker.specs.Regions.{Heads}
+use Rattle.checker.specs.Forms.{EndsIs, GoesIs, goes, stops, NewIs, new_goes, new_stops, SwitchIs, switch_goes, switch_stops}
+use Rattle.checker.specs.Statements.{ClausesAre, BareAre}
 use Rattle.checker.proofs.Loops.{shown-bad, shown-on, forget-after}
-use Rattle.checker.proofs.Lists.{holds-length, holds-front, holds-back}
-use Rattle.checker.proofs.FormLaws.{signature_at}
+use Rattle.checker.proofs.Lists.{holds-length, holds-front, map-drop, at_some}
+use Rattle.checker.proofs.RegionLaws.{held-narrow}
 
-module _ (image sigs labels s : List ℕ) (env : List (List ℕ)) (full : length env ≡ 32) (width : ℕ) (narrow : width ≤ 32) (depth p : ℕ) where
+-- ---- extern
+
+-- what each clause of an operation gains
+abbrev pub gained : Operation → Environment
+gained o = cond (gaining o) (ext ∷ []) []
+
+means-arguments : (o : Operation) (op : Terms.Operation) → Means o op → length (arguments op) ≡ argument_count o
+means-arguments Lit op m = rw m.1
+means-arguments Add op m = rw m
+means-arguments Sub op m = rw m
+means-arguments Mul op m = rw m
+means-arguments Ifz op m = rw m
+means-arguments Less op m = rw m
+means-arguments Exit op m = rw m
+
+means-gains : (o : Operation) (op : Terms.Operation) → Means o op → gains op ≡ replicate (clause_count o) (gained o)
+means-gains Lit op m = rw m.1
+means-gains Add op m = rw m
+means-gains Sub op m = rw m
+means-gains Mul op m = rw m
+means-gains Ifz op m = rw m
+means-gains Less op m = rw m
+means-gains Exit op m = rw m
+
+-- the environment of the clauses: one more integer where they gain it, or the same
+pub record Gained (env : Env) (o : Operation) (inner : Option Env) : Type 0 where
+  pub held : (Δ : Environment) → Held env Δ → HeldOr inner (Δ ++ gained o)
+
+pub gained-one : {env : Env} {o : Operation} → true ≡ gaining o → {inner : Option Env} → ((Δ : Environment) → Held env Δ → HeldOr inner (Δ ++ (ext ∷ []))) → Gained env o inner
+gained-one e t = record { held = λ Δ h. rw (← e) (t Δ h) }
+
+pub gained-none : {env : Env} {o : Operation} → false ≡ gaining o → Gained env o (Some env)
+gained-none e = record { held = λ Δ h. rw (← e, append-nil) h }
+
+replicate-all : (Γ ps Δ : Environment) (n : ℕ) → Γ ++ ps ++ [] ≡ Δ → All (λ ps. Γ ++ ps ++ [] ≡ Δ) (replicate n ps)
+replicate-all Γ ps Δ zero e = tt
+replicate-all Γ ps Δ (suc n) e = (e, replicate-all Γ ps Δ n e)
+
+module _ {g : Region} {env : Env} {at : ℕ} where
+  pub extern-unknown : {e : Fault} → OperationIs g.bytes.now (at + 1) (Err e) → EndsIs an_extern g env at (Err e)
+  unfolding after shown
+  extern-unknown (operation_not r) = record { is = λ Σ Θ Δ f a k w. rw r }
+
+  module _ {n : ℕ} where
+    pub extern-argument : {o : Operation} {next : ℕ} → OperationIs g.bytes.now (at + 1) (Ok (o, next)) → n ≡ argument_count o
+        → (e : Fault) → ((Δ : Environment) → Held env Δ → forget (times n (argument Δ) next (drop next g.bytes.now)) ≡ shown g.bytes.now (Err e)) → EndsIs an_extern g env at (Err e)
+    unfolding after shown
+    extern-argument {o} (operation_is {next = next} op m r l i) z e t = record {
+      is = λ Σ Θ Δ f a k w.
+          rw (r, shown-bad g.bytes.now (times (length (arguments op)) (argument Δ) next (drop next g.bytes.now)) (Err e) e (rw (means-arguments o op m, ← z) (t Δ k)) refl);
+    }
+
+    pub extern-goes : {o : Operation} {next : ℕ} → OperationIs g.bytes.now (at + 1) (Ok (o, next)) → n ≡ argument_count o
+        → (p : ℕ) → ((Δ : Environment) → Held env Δ → forget (times n (argument Δ) next (drop next g.bytes.now)) ≡ shown g.bytes.now (Ok p)) → next ≤ p
+        → {inner : Option Env} → Gained env o inner → {many : ℕ} → many ≡ clause_count o → {r : Walk} → BareAre g inner many p r → EndsIs an_extern g env at r
+    unfolding after
+    extern-goes {o} (operation_is {next = next} op m r l i) z p t h v {many} c y = record {
+      is = λ Σ Θ Δ f a k w.
+          with' (shown-on g.bytes.now (times (length (arguments op)) (argument Δ) next (drop next g.bytes.now)) (Ok p) p (rw (means-arguments o op m, ← z) (t Δ k)) refl) λ u.
+          rw (r, u.1, means-gains o op m, forget-after _ (λ cs. extern op u.0 cs))
+          (y.is Σ Θ Δ (Δ ++ gained o) _ 0 f a (replicate-all Δ (gained o) (Δ ++ gained o) (clause_count o) (append-nil (Δ ++ gained o)))
+          (length-replicate (clause_count o) (gained o) ∙ rw c) (v.held Δ k) (omega arith));
+    }
+
+-- ---- parts of an environment
+
+-- all but its last entries
+pub front-held : (env first : Env) (n : ℕ) → n ≤ env.width → first.types ≡ env.types → first.width ≡ env.width - n → (Δ : Environment) → Held env Δ → Held first (front Δ n)
+front-held env first n l e w Δ h = rw (e, w) (holds-front env.types env.full env.width env.narrow Δ h n l)
+
+-- its last entries
+pub back-held : (env : Env) (n : ℕ) {entries : List (List ℕ)} → entries ≡ take env.width env.types → (Δ : Environment) → Held env Δ
+    → take (length entries - (env.width - n)) (drop (env.width - n) entries) ≡ map type_bytes (back Δ n)
+back-held env n {entries} e Δ h =
+    rw (← (length-drop (env.width - n) entries), take-length (drop (env.width - n) entries), e, h, holds-length env.types env.full env.width env.narrow Δ h) (map-drop type_bytes (env.width - n) Δ)
+
+-- a signature that is known stands where the table says
+pub signature-known : (g : Region) (i : ℕ) → i < length g.sigs.now → ∥ SignatureAt g.image.now (get_or g.sigs.now i 0) ∥₁
+signature-known g i l = ∥∥₁_map g.signed (λ k. go k)
+  where
+    go : Known signature_bytes g.image.now g.sigs.now → SignatureAt g.image.now (get_or g.sigs.now i 0)
+    go k = with' (at_some k.list i (omega (arith, k.placed.many))) λ w. record { signature = w.0; laid = k.placed.laid i w.0 w.1 }
+
+module _ {g : Region} {env : Env} {at : ℕ} where
   -- ---- switch
 
-  module _ (q : Name) (h : SwitchIs image sigs s env width p q) where
-    pub switch-bad : (n o : ℕ) → q ≡ Not n o → SwitchWhole image sigs labels s env width depth p (Bad n o)
-    unfolding shown
-    switch-bad n o e = record { is = λ Σ Θ Δ f a b k w. go (rw e at h) Σ Θ (statement Σ Θ f) Δ a k }
-      where
-        go : {n o : ℕ} → SwitchIs image sigs s env width p (Not n o) → (Σ : List Signature) (Θ : List Environment) (inner : Inner) (Δ : Environment) → Placed signature_bytes image sigs Σ → Holds env width Δ → forget (a_switch Σ Θ inner p depth Δ (p + 1) (drop (p + 1) s)) ≡ refused (fault n o)
-        go (switch_fails g) Σ Θ inner Δ a k = g Σ Θ inner depth Δ a k
+  pub switch-refused : {e : Fault} → SwitchIs g env at (Err e) → EndsIs a_switch g env at (Err e)
+  unfolding shown
+  switch-refused (switch_stops t) = record { is = λ Σ Θ Δ f a k w. t Σ Θ Δ f a k }
 
-    module _ (sig : ℕ) (e : q ≡ Is sig) where
-      pub switch-facts : Known signature_bytes image sigs → (p + 1 + 1 + 1 ≤ length s) × (1 ≤ width) × SignatureAt image sig
-      switch-facts k = go (rw e at h)
-        where
-          go : {sig : ℕ} → SwitchIs image sigs s env width p (Is sig) → (p + 1 + 1 + 1 ≤ length s) × (1 ≤ width) × SignatureAt image sig
-          go (switch_goes a b x y g) = (a, b, rw x (signature_at k (get_or s (p + 1) 0) y))
+  pub switch-facts : {sig : ℕ} → SwitchIs g env at (Ok sig) → (at + 3 ≤ length g.bytes.now) × (1 ≤ env.width) × ∥ SignatureAt g.image.now sig ∥₁
+  switch-facts (switch_goes l i e n t) = (l, i, rw e (signature-known g (get_or g.bytes.now (at + 1) 0) n))
 
-      pub switch-on : (r : Walk) → ClausesAre image sigs labels s env (width - 1) 0 0 depth sig (p + 1 + 1 + 1) r → SwitchWhole image sigs labels s env width depth p r
-      switch-on r t = record { is = λ Σ Θ Δ f a b k w. go (rw e at h) Σ Θ f a b Δ k w t }
-        where
-          go : {sig : ℕ} → SwitchIs image sigs s env width p (Is sig) → (Σ : List Signature) (Θ : List Environment) (f : ℕ) → Placed signature_bytes image sigs Σ → Placed parameters_bytes image labels Θ → (Δ : Environment) → Holds env width Δ → length s - (p + 1) ≤ f
-              → ClausesAre image sigs labels s env (width - 1) 0 0 depth sig (p + 1 + 1 + 1) r → forget (a_switch Σ Θ (statement Σ Θ f) p depth Δ (p + 1) (drop (p + 1) s)) ≡ shown s r
-          go (switch_goes x y z v u) Σ Θ f a b Δ k w t =
-              with' (u Σ Θ (statement Σ Θ f) depth Δ a k) λ m.
-              m.2 ∙ t.is Σ Θ (front Δ 1) [] m.0 f a b (holds-front env full width narrow Δ k 1 y) refl m.1 (omega arith)
+  pub switch-on : {sig : ℕ} → SwitchIs g env at (Ok sig) → {first : Env} → ((Δ : Environment) → Held env Δ → Held first (front Δ 1))
+      → {r : Walk} → ClausesAre g first [] sig (at + 3) r → EndsIs a_switch g env at r
+  switch-on (switch_goes l i e n t) v y = record {
+    is = λ Σ Θ Δ f a k w.
+        with' (t Σ Θ Δ f a k) λ m.
+        m.2 ∙ y.is Σ Θ (front Δ 1) [] m.0 f a (v Δ k) refl m.1 (omega arith);
+  }
 
   -- ---- new
 
+  pub new-refused : {e : Fault} → NewIs g env at (Err e) → GoesIs a_new g env at (Err e)
+  new-refused (new_stops t) = stops (λ Σ Θ Δ f a k w. t Σ Θ Δ f a k)
+
+  pub new-facts : {sig captures : ℕ} → NewIs g env at (Ok (sig, captures)) → (at + 4 ≤ length g.bytes.now) × (captures ≤ env.width) × ∥ SignatureAt g.image.now sig ∥₁
+  new-facts (new_goes l i e n t) = (l, i, rw e (signature-known g (get_or g.bytes.now (at + 1) 0) n))
+
+-- ---- new with its remainder
+
+module _ (g : Region) (env : Env) (at : ℕ) where
   -- the environment of the remainder
   abbrev rest : Environment → ℕ → Environment
-  rest Δ captures = front Δ captures ++ (cns (get_or s (p + 1) 0) ∷ [])
+  rest Δ captures = front Δ captures ++ (cns (get_or g.bytes.now (at + 1) 0) ∷ [])
+
+  -- it is held where it fits
+  pub record Rest (captures : ℕ) (next : Option Env) : Type 0 where
+    pub held : (Δ : Environment) → Held env Δ → HeldOr next (rest Δ captures)
 
   -- the clauses' reader
   abbrev read-clauses : List Signature → List Environment → Environment → ℕ → ℕ → Signature → Read Clauses
-  read-clauses Σ Θ Δ f captures S = clauses Σ Θ (statement Σ Θ f) named depth [] (back Δ captures) 0 S (p + 1 + 1 + 1 + 1) (drop (p + 1 + 1 + 1 + 1) s)
+  read-clauses Σ Θ Δ f captures S = clauses Σ Θ (statement Σ Θ f) named g.depth [] (back Δ captures) 0 S (at + 4) (drop (at + 4) g.bytes.now)
 
   -- what it gives, and what follows it
   abbrev AfterClauses : List Signature → List Environment → Environment → ℕ → ℕ → Walk → Type 0
-  AfterClauses Σ Θ Δ f captures x = (S : Signature) × (forget (read-clauses Σ Θ Δ f captures S) ≡ shown s x)
-      × (forget (a_new Σ Θ (statement Σ Θ f) p depth Δ (p + 1) (drop (p + 1) s)) ≡ forget (after (read-clauses Σ Θ Δ f captures S) (λ cs. need (fits (rest Δ captures)) 5 p >> (statement Σ Θ f depth (rest Δ captures) >>= (λ u. give (new (get_or s (p + 1) 0) captures cs u))))))
+  AfterClauses Σ Θ Δ f captures x = (S : Signature) × (forget (read-clauses Σ Θ Δ f captures S) ≡ shown g.bytes.now x)
+      × (forget (a_new Σ Θ (statement Σ Θ f) at g.depth Δ (at + 1) (drop (at + 1) g.bytes.now)) ≡ forget (after (read-clauses Σ Θ Δ f captures S) (λ cs.
+      need (fits (rest Δ captures)) 5 at >> (statement Σ Θ f g.depth (rest Δ captures) >>= (λ u. give (new (get_or g.bytes.now (at + 1) 0) captures cs u))))))
 
-  module _ (q : Cases) (h : NewIs image sigs s width p q) where
-    pub new-bad : (n o : ℕ) → q ≡ Wrong n o → NewWhole image sigs labels s env width depth p (Fails n o)
-    new-bad n o e = new_bad (λ Σ Θ Δ f a b k w. go (rw e at h) Σ Θ (statement Σ Θ f) Δ a (holds-length env full width narrow Δ k))
-      where
-        go : {n o : ℕ} → NewIs image sigs s width p (Wrong n o) → (Σ : List Signature) (Θ : List Environment) (inner : Inner) (Δ : Environment) → Placed signature_bytes image sigs Σ → length Δ ≡ width → forget (a_new Σ Θ inner p depth Δ (p + 1) (drop (p + 1) s)) ≡ refused (fault n o)
-        go (new_fails g) Σ Θ inner Δ a k = g Σ Θ inner depth Δ a k
+-- a consumer pushed behind the entries that are kept
+pub pushed : {g : Region} {env : Env} {at captures : ℕ} → captures ≤ env.width → (first : Env) → first.types ≡ env.types → first.width ≡ env.width - captures
+    → (bs : List ℕ) → type_bytes (cns (get_or g.bytes.now (at + 1) 0)) ≡ bs
+    → {next : Option Env} → ((Δ : Environment) (t : Ty) → Held first Δ → type_bytes t ≡ bs → HeldOr next (Δ ++ (t ∷ []))) → Rest g env at captures next
+pushed {g} {env} {at} {captures} l first e w bs b t = record { held = λ Δ h. t (front Δ captures) (cns (get_or g.bytes.now (at + 1) 0)) (front-held env first captures l e w Δ h) b }
 
-    module _ (sig captures : ℕ) (e : q ≡ Of sig captures) where
-      pub new-facts : Known signature_bytes image sigs → (p + 1 + 1 + 1 + 1 ≤ length s) × (captures ≤ width) × SignatureAt image sig
-      new-facts k = go (rw e at h)
-        where
-          go : {sig captures : ℕ} → NewIs image sigs s width p (Of sig captures) → (p + 1 + 1 + 1 + 1 ≤ length s) × (captures ≤ width) × SignatureAt image sig
-          go (new_goes a b x y g) = (a, b, rw x (signature_at k (get_or s (p + 1) 0) y))
+module _ {g : Region} {env : Env} {at sig captures : ℕ} (h : NewIs g env at (Ok (sig, captures)))
+    {before : Env} {behind : List (List ℕ)} (none : before.width ≡ 0) (captured : (Δ : Environment) → Held env Δ → behind ≡ map type_bytes (back Δ captures)) where
+  after-clauses : (x : Walk) → ClausesAre g before behind sig (at + 4) x
+      → (Σ : List Signature) (Θ : List Environment) (Δ : Environment) (f : ℕ) → Heads g Σ Θ → Held env Δ → length g.bytes.now - (at + 1) ≤ f
+      → AfterClauses g env at Σ Θ Δ f captures x
+  after-clauses x y Σ Θ Δ f a k w = go h captured y
+    where
+      go : {sig captures : ℕ} → NewIs g env at (Ok (sig, captures)) → ((Δ : Environment) → Held env Δ → behind ≡ map type_bytes (back Δ captures))
+          → ClausesAre g before behind sig (at + 4) x → AfterClauses g env at Σ Θ Δ f captures x
+      go (new_goes {captures = captures} l i e n t) v y =
+          with' (t Σ Θ Δ f a k) λ m.
+          (m.0, y.is Σ Θ [] (back Δ captures) m.0 f a (rw none) (v Δ k) m.1 (omega arith), m.2)
 
-      few : captures ≤ width
-      few = go (rw e at h)
-        where
-          go : {sig captures : ℕ} → NewIs image sigs s width p (Of sig captures) → captures ≤ width
-          go (new_goes a b x y g) = b
+  pub new-clause : {e : Fault} → ClausesAre g before behind sig (at + 4) (Err e) → GoesIs a_new g env at (Err e)
+  unfolding after
+  new-clause {e} y = stops {e = e} (λ Σ Θ Δ f a k w.
+      with' (after-clauses (Err e) y Σ Θ Δ f a k w) λ u.
+      u.2 ∙ rw (shown-bad g.bytes.now _ (Err e) e u.1 refl))
 
-      module _ (x : Walk) (t : ClausesAre image sigs labels s env 0 (width - captures) captures depth sig (p + 1 + 1 + 1 + 1) x) where
-        after-clauses : (Σ : List Signature) (Θ : List Environment) (Δ : Environment) (f : ℕ) → Placed signature_bytes image sigs Σ → Placed parameters_bytes image labels Θ → Holds env width Δ → length s - (p + 1) ≤ f → AfterClauses Σ Θ Δ f captures x
-        after-clauses Σ Θ Δ f a b k w = go (rw e at h) t
-          where
-            go : {sig captures : ℕ} → NewIs image sigs s width p (Of sig captures) → ClausesAre image sigs labels s env 0 (width - captures) captures depth sig (p + 1 + 1 + 1 + 1) x → AfterClauses Σ Θ Δ f captures x
-            go (new_goes {captures = captures} y z v i u) t =
-                with' (u Σ Θ (statement Σ Θ f) depth Δ a (holds-length env full width narrow Δ k)) λ m.
-                (m.0, t.is Σ Θ [] (back Δ captures) m.0 f a b refl (holds-back env full width narrow Δ k captures z) m.1 (omega arith), m.2)
+  module _ {on : ℕ} (y : ClausesAre g before behind sig (at + 4) (Ok on)) where
+    pub new-wide : Rest g env at captures None → GoesIs a_new g env at (Err (fault-at Wide at))
+    unfolding after need
+    new-wide t = stops {e = fault-at Wide at} (λ Σ Θ Δ f a k w.
+        with' (after-clauses (Ok on) y Σ Θ Δ f a k w) λ u.
+        with' (shown-on g.bytes.now _ (Ok on) on u.1 refl) λ m.
+        u.2 ∙ rw (m.1, lt-leb (length (rest g env at Δ captures)) widest (t.held Δ k)))
 
-        pub new-clause : (n o : ℕ) → x ≡ Bad n o → NewWhole image sigs labels s env width depth p (Fails n o)
-        unfolding after
-        new-clause n o y = new_bad {n = n} {o = o} (λ Σ Θ Δ f a b k w.
-            with' (after-clauses Σ Θ Δ f a b k w) λ u.
-            u.2 ∙ rw (shown-bad s (read-clauses Σ Θ Δ f captures u.0) x n o u.1 y))
-
-        module _ (on : ℕ) (y : x ≡ On on) where
-          -- how wide the environment of the remainder is
-          rest-length : (Δ : Environment) → Holds env width Δ → length (rest Δ captures) ≡ suc (width - captures)
-          rest-length Δ k = rw (length-append, holds-length env full (width - captures) (omega arith) (front Δ captures) (holds-front env full width narrow Δ k captures few)) (omega arith)
-
-          pub new-wide : width - captures ≡ 32 → NewWhole image sigs labels s env width depth p (Fails 5 p)
-          unfolding after need
-          new-wide z = new_bad {n = 5} {o = p} (λ Σ Θ Δ f a b k w.
-              with' (after-clauses Σ Θ Δ f a b k w) λ u.
-              with' (shown-on s (read-clauses Σ Θ Δ f captures u.0) x on u.1 y) λ m.
-              u.2 ∙ rw (m.1, lt-leb (length (rest Δ captures)) widest (rw (rest-length Δ k) (omega arith))))
-
-          pub new-on : (width - captures ≡ 32 → ⊥) → p + 1 + 1 + 1 + 1 ≤ on → on ≤ length s → NewWhole image sigs labels s env width depth p (To on (width - captures + 1))
-          unfolding after need
-          new-on z i j = new_on {on = on} {kept = width - captures} {wide = width - captures + 1} i j (not-32 (width - captures) (omega arith) z) refl (λ Σ Θ Δ f a b k w.
-              with' (after-clauses Σ Θ Δ f a b k w) λ u.
-              with' (shown-on s (read-clauses Σ Θ Δ f captures u.0) x on u.1 y) λ m. (
-                front Δ captures,
-                holds-front env full width narrow Δ k captures few,
-                u.2 ∙ rw (
-                  m.1,
-                  le-leb (length (rest Δ captures)) widest (rw (rest-length Δ k) (not-32 (width - captures) (omega arith) z)),
-                ) (forget-after (statement Σ Θ f depth (rest Δ captures) on (drop on s)) (λ v. new (get_or s (p + 1) 0) captures m.0 v)),
-              ))
-            where
-              not-32 : (n : ℕ) → n ≤ 32 → (n ≡ 32 → ⊥) → n < 32
-              not-32 n l m = omega arith
+    pub new-on : at + 4 ≤ on → on ≤ length g.bytes.now → {next : Env} → Rest g env at captures (Some next) → GoesIs a_new g env at (Ok (on, next))
+    unfolding after need
+    new-on l i {next} t = goes {on = on} {env' = next} (omega arith) i (λ Σ Θ Δ f a k w.
+        with' (after-clauses (Ok on) y Σ Θ Δ f a k w) λ u.
+        with' (shown-on g.bytes.now _ (Ok on) on u.1 refl) λ m. (
+          rest g env at Δ captures,
+          t.held Δ k,
+          u.2 ∙ rw (
+            m.1,
+            le-leb (length (rest g env at Δ captures)) widest (held-narrow next (rest g env at Δ captures) (t.held Δ k)),
+          ) (forget-after _ (λ v. new (get_or g.bytes.now (at + 1) 0) captures m.0 v)),
+        ))

@@ -1,252 +1,296 @@
 -- The tests of each form, in each case. Assumes nothing.
-use Prim.Native.Nat.{ℕ, suc, ◌+◌, ◌-◌, ◌≤◌, ◌<◌}
-use mathlib.Core.Path.{◌≡◌, refl, sym, ◌∙◌}
-use mathlib.Core.List.{List, [], ◌∷◌, ◌++◌, flat_map}
-use mathlib.Core.Bool.{Bool, true, false}
-use native.Mathlib.Omega.{arith}
-use lib.ListN.{length, get_or, drop, length-append}
-use borrow.Author.Tests.{eq-eqb, ne_eqb, le-leb, lt-leb}
+use Rattle.std.proofs.Common.{ℕ, zero, suc, ◌+◌, ◌-◌, ◌*◌, ◌/◌, ◌≤◌, ◌<◌, ◌≡◌, List, [], ◌∷◌, ◌++◌, Bool, true, false, not, length, get_or}
+use Rattle.std.proofs.Common.{take, drop, eqb, refl, sym, ap, ◌∙◌, map, arith, le-leb, length-drop, length-take-le, zero-add}
+use Rattle.std.proofs.Common.{Option, None, Some, Result, Ok, Err, ok_or, MatchOption, MatchResult}
+use Rattle.std.specs.List.{IsLastAndRest}
+use Rattle.std.proofs.Math.Option.{none, some}
+use lib.ListN.{length-map}
+use Rattle.std.proofs.Math.Logic.{∥∥₁_elim}
+use Rattle.std.proofs.Math.Bridge.{le_prop}
+use Rattle.std.proofs.lemmas.Bool.{not-true, not-false, lt-leb}
+use lib.Pointwise.{pointwise, pointwise_long}
+use Rattle.definitions.specs.Terms.{Ty, prd, cns, ext, Environment, Signature, invoke, let', substitute}
+use Rattle.definitions.specs.Layout.{kind_byte, number_byte, type_bytes}
+use Rattle.definitions.specs.Ends.{front, back, last}
 use Rattle.definitions.specs.Limits.{widest}
-use Rattle.definitions.specs.Terms.{Ty, prd, Environment, Signature, let'}
-use Rattle.definitions.specs.Layout.{counted}
-use Rattle.definitions.specs.Ends.{front, back}
 use Rattle.definitions.specs.Typing.{At}
-use Rattle.definitions.specs.Reader.{fault, got, refused, after, need, the, known, expected}
-use Rattle.definitions.specs.FirstFault.{same_types}
-use Rattle.checker.specs.declared.Walk.{Walk}
-use Rattle.checker.specs.declared.Walk.TheVariants.{On, Bad}
-use Rattle.checker.specs.declared.Name.{Name}
-use Rattle.checker.specs.declared.Name.TheVariants.{Is, Not}
-use Rattle.checker.specs.declared.Step.TheVariants.{To, Fails}
-use Rattle.checker.specs.Forms.{NameIs, is_named, is_ended, is_unknown, JumpIs, LetIs, let_goes, let_fails}
-use Rattle.checker.specs.Shown.{forget, shown}
-use Rattle.checker.specs.Laid.{Laid, Holds, Placed, Known, parameters_bytes, signature_bytes, ParametersAt, SignatureAt}
-use Rattle.checker.proofs.Bytes.{byte-end, byte_at}
-use Rattle.checker.proofs.Loops.{forget-after}
-use Rattle.checker.proofs.Filling.{Compared}
-use Rattle.checker.proofs.Lists.{laid-byte, laid-inside, holds-front, Parameters, parameters-at, holds-length, holds-back, back-length, same_types-lengths, at_some, at_none}
-use Rattle.exactness.proofs.Readers.{with'}
+use Rattle.definitions.specs.Reader.{got, after, need, the, give, byte, times, known}
+use Rattle.definitions.specs.FirstFault.{same_types, consumes, statement, a_jump, a_substitute, a_let, an_invoke}
+use Rattle.exactness.proofs.Readers.{with', same_place, then, known-then}
+use Rattle.checker.specs.declared.faults.Refusal.TheVariants.{Untyped, Wide}
+use Rattle.checker.specs.declared.faults.Fault.{Fault}
+use Rattle.checker.specs.declared.env.Env.{Env}
+use Rattle.checker.specs.declared.region.Region.{Region}
+use Rattle.checker.specs.Faults.{at as fault-at}
+use Rattle.checker.specs.Shown.{Walk, forget, shown, Within}
+use Rattle.checker.specs.Laid.{Laid, Holds, Placed, parameters_bytes, signature_bytes}
+use Rattle.checker.specs.Entries.{Held, HeldOr, Positions, NamedIs}
+use Rattle.checker.specs.Readers.{NameIs, CountIs}
+use Rattle.checker.specs.Forms.{EndsIs, GoesIs, goes, stops}
+use Rattle.checker.proofs.Lists.{list-inside, at_some, at_none, types-length, holds-length, holds-front}
+use Rattle.checker.proofs.PlaceLaws.{laid-counted, counted-inside, listed-inside}
+use Rattle.checker.proofs.Loops.{forget-after, shown-bad, shown-on}
+use Rattle.checker.proofs.ReaderLaws.{name-on, name-bad, name-value, count-on, count-bad}
+use Rattle.checker.proofs.SameTypes.{flattened, flattened-map, bytes, compared, compared-end, LastIs, last-is}
 
--- ---- a byte that must be so
+-- ---- where the tables of a region point
 
-module _ (s : List ℕ) (wanted at : ℕ) (h : at ≤ length s) where
-  abbrev Expects : Walk → Type 0
-  Expects r = forget (expected wanted at (drop at s)) ≡ shown s r
+pub label-inside : (g : Region) {at l : ℕ} → NameIs g.bytes.now (length g.labels.now) at (Ok l) → get_or g.labels.now l 0 + 1 + 2 * get_or g.image.now (get_or g.labels.now l 0) 0 ≤ length g.image.now
+label-inside g {l = l} h = listed-inside g.image.now g.labels.now l (omega (arith, (name-value h).2)) g.labelled
 
-  pub expect-end : at ≡ length s → Expects (Bad 3 at)
-  unfolding after shown
-  expect-end e = rw (byte-end s at e)
+-- a signature starts with its symbol count
+pub signature-count : {image : List ℕ} {sig : ℕ} (S : Signature) → Laid image sig (signature_bytes S) → get_or image sig 0 ≡ length S
+signature-count {image} {sig} S l = (laid-counted parameters_bytes image sig S l).0
 
-  module _ (more : at ≡ length s → ⊥) where
-    pub expect-other : (get_or s at 0 ≡ wanted → ⊥) → Expects (Bad 9 at)
-    unfolding after need shown
-    expect-other n = rw (byte_at s at (omega arith), ne_eqb (get_or s at 0) wanted n)
+-- what a search for the symbol m finds
+abbrev pub SymbolAt : List ℕ → ℕ → ℕ → ℕ → Type 0
+SymbolAt image sig m list = (S : Signature) (Γ : Environment) → Laid image sig (signature_bytes S) → At S m Γ → Laid image list (parameters_bytes Γ)
 
-    pub expect-same : get_or s at 0 ≡ wanted → Expects (On (at + 1))
-    unfolding after need shown
-    expect-same e = rw (byte_at s at (omega arith), eq-eqb (get_or s at 0) wanted e)
+-- The signature t of a region, which stands at `sig`.
+module _ (g : Region) {t sig : ℕ} (e : sig ≡ get_or g.sigs.now t 0) (b : t < length g.sigs.now) where
+  pub offset-inside : sig < length g.image.now
+  offset-inside = ∥∥₁_elim g.signed le_prop λ k.
+      with' (at_some k.list t (omega (arith, k.placed.many))) λ a.
+      counted-inside parameters_bytes g.image.now sig a.0 (rw e (k.placed.laid t a.0 a.1))
 
--- ---- lists of types
-
--- the count byte of a list that stands there, and its end
-pub count-inside : (s : List ℕ) (list : ℕ) → ParametersAt s list → list + 1 + (get_or s list 0 + get_or s list 0) ≤ length s
-count-inside s list p =
-    let q : Parameters s list p.parameters = parameters-at s list p.parameters p.laid in
-    omega arith
-
-module _ (s : List ℕ) (env : List (List ℕ)) (width : ℕ) (list : ℕ) where
-  -- what `equals` and `ends_with` promise of their answers
-  abbrev pub Equals : Bool → Type 0
-  Equals r = (Δ Γ : Environment) → Holds env width Δ → Laid s list (parameters_bytes Γ) → r ≡ same_types Δ Γ
-
-  abbrev pub EndsWith : Bool → Type 0
-  EndsWith r = (Δ Γ : Environment) → Holds env width Δ → Laid s list (parameters_bytes Γ) → r ≡ same_types (back Δ (length Γ)) Γ
-
-module _ (s : List ℕ) (env : List (List ℕ)) (full : length env ≡ 32) (width : ℕ) (narrow : width ≤ 32) (list : ℕ) where
-  -- lists of different lengths are not the same; of equal lengths, the comparison of as many types decides
-  pub equals-not : (get_or s list 0 ≡ width → ⊥) → Equals s env width list false
-  equals-not n Δ Γ h l =
-      let q : Parameters s list Γ = parameters-at s list Γ l in
-      let e : length Δ ≡ width = holds-length env full width narrow Δ h in
-      sym (same_types-lengths Δ Γ (λ m. n (q.count ∙ sym m ∙ e)))
-
-  pub equals-same : get_or s list 0 ≡ width → (r : Bool) → Compared env 0 s (list + 1) (get_or s list 0) r → Equals s env width list r
-  equals-same e r f Δ Γ h l =
-      let q : Parameters s list Γ = parameters-at s list Γ l in
-      f Δ Γ (holds-length env full width narrow Δ h ∙ sym e) (sym q.count) (rw e h) (rw q.count q.types)
-
-  pub ends-not : width < get_or s list 0 → EndsWith s env width list false
-  ends-not n Δ Γ h l =
-      let q : Parameters s list Γ = parameters-at s list Γ l in
-      let e : length Δ ≡ width = holds-length env full width narrow Δ h in
-      let z : length Δ - length Γ ≡ 0 = omega arith in
-      sym (rw z (same_types-lengths Δ Γ (λ m. omega arith)))
-
-  pub ends_same : get_or s list 0 ≤ width → (r : Bool) → Compared env (width - get_or s list 0) s (list + 1) (get_or s list 0) r → EndsWith s env width list r
-  ends_same n r f Δ Γ h l =
-      let q : Parameters s list Γ = parameters-at s list Γ l in
-      let g : length Γ ≤ width = omega arith in
-      f (back Δ (length Γ)) Γ (back-length env full width narrow Δ h (length Γ) g ∙ sym q.count) (sym q.count) (rw q.count (holds-back env full width narrow Δ h (length Γ) g)) (rw q.count q.types)
-
--- ---- names
-
-module _ (s : List ℕ) (many at : ℕ) (q : Name) (h : NameIs s many at q) where
-  -- a name is the byte that stands there, below the bound
-  pub name-is : (i : ℕ) → q ≡ Is i → (at < length s) × (i ≡ get_or s at 0) × (i < many)
-  name-is i e = go (rw e at h)
-    where
-      go : {i : ℕ} → NameIs s many at (Is i) → (at < length s) × (i ≡ get_or s at 0) × (i < many)
-      go (is_named l g b) = (l, g, b)
-
-  module _ {A : Type 0} (l : List A) (n : many ≡ length l) where
-    -- in a list of as many entries the name's reader gives the entry, or refuses as the name does
-    pub known_is : (i : ℕ) → q ≡ Is i → (a : A) × At l i a × (known l at (drop at s) ≡ got (i, a) (at + 1) (drop (at + 1) s))
-    unfolding after the
-    known_is i e =
-        with' (name-is i e) λ w.
-        with' (at_some l i (omega arith)) λ a.
-        (a.0, a.1, rw (byte_at s at w.0, ← w.1, a.1))
-
-    pub known-not : (k o : ℕ) → q ≡ Not k o → known l at (drop at s) ≡ refused (fault k o)
-    unfolding after the
-    known-not k o e = go (rw e at h)
-      where
-        go : {k o : ℕ} → NameIs s many at (Not k o) → known l at (drop at s) ≡ refused (fault k o)
-        go (is_ended g) = rw (byte-end s at g)
-        go (is_unknown g b) = rw (byte_at s at g, at_none l (get_or s at 0) (omega arith))
-
--- what stands where an offset of a table says
-pub placed_at : {A : Type 0} {f : A → List ℕ} {image offsets : List ℕ} (k : Known f image offsets) (i : ℕ) → i < length offsets → (a : A) × Laid image (get_or offsets i 0) (f a)
-placed_at k i h =
-    with' (at_some k.list i (omega (arith, k.placed.many))) λ a.
-    (a.0, k.placed.laid i a.0 a.1)
-
-pub list_at : {image labels : List ℕ} → Known parameters_bytes image labels → (i : ℕ) → i < length labels → ParametersAt image (get_or labels i 0)
-list_at k i h = with' (placed_at k i h) λ w. record { parameters = w.0; laid = w.1 }
-
-pub signature_at : {image sigs : List ℕ} → Known signature_bytes image sigs → (i : ℕ) → i < length sigs → SignatureAt image (get_or sigs i 0)
-signature_at k i h = with' (placed_at k i h) λ w. record { signature = w.0; laid = w.1 }
+  pub symbol-inside : {at m list : ℕ} → NameIs g.bytes.now (get_or g.image.now sig 0) at (Ok m) → SymbolAt g.image.now sig m list → list + 1 + 2 * get_or g.image.now list 0 ≤ length g.image.now
+  symbol-inside {m = m} {list = list} h f = ∥∥₁_elim g.signed le_prop λ k.
+      with' (at_some k.list t (omega (arith, k.placed.many))) λ a.
+      let l : Laid g.image.now sig (signature_bytes a.0) = rw e (k.placed.laid t a.0 a.1) in
+      with' (at_some a.0 m (omega (arith, signature-count a.0 l, (name-value h).2))) λ c.
+      list-inside g.image.now list c.0 (f a.0 c.0 l c.1)
 
 -- ---- jump
 
-module _ (image labels s : List ℕ) (env : List (List ℕ)) (width at : ℕ) (q : Name) (h : NameIs s (length labels) (at + 1) q) where
-  -- the label is unknown, or its types are the environment, or not
-  pub jump-bad : (n o : ℕ) → q ≡ Not n o → JumpIs image labels s env width at (Bad n o)
+module _ {g : Region} {env : Env} {at : ℕ} where
+  pub jump-bad : {f : Fault} → NameIs g.bytes.now (length g.labels.now) (at + 1) (Err f) → EndsIs a_jump g env at (Err f)
   unfolding after shown
-  jump-bad n o e = record { is = λ Σ Θ inner d Δ p k. rw (known-not s (length labels) (at + 1) q h Θ p.many n o e) }
+  jump-bad h = record { is = λ Σ Θ Δ f p k m. rw (name-bad Θ p.labelled.many h) }
 
-  module _ (l : ℕ) (e : q ≡ Is l) (r : Bool) (g : Equals image env width (get_or labels l 0) r) where
-    pub jump-same : r ≡ true → JumpIs image labels s env width at (On (at + 1 + 1))
+  module _ {l : ℕ} (h : NameIs g.bytes.now (length g.labels.now) (at + 1) (Ok l)) {flat wanted : List ℕ} (e : flat ≡ flattened (take env.width env.types))
+      (w : (Γ : Environment) → Laid g.image.now (get_or g.labels.now l 0) (parameters_bytes Γ) → wanted ≡ bytes Γ) where
+    pub jump-other : not (pointwise eqb flat wanted) ≡ true → EndsIs a_jump g env at (Err (fault-at Untyped at))
     unfolding after need shown
-    jump-same t = record {
-      is = λ Σ Θ inner d Δ p k.
-          with' (known_is s (length labels) (at + 1) q h Θ p.many l e) λ w.
-          rw (w.2, ← (g Δ w.0 k (p.laid l w.0 w.1)), t);
+    jump-other n = record {
+      is = λ Σ Θ Δ f p k m.
+          let on = name-on Θ p.labelled.many h in
+          rw (on.reads, ← (compared Δ on.entry k e (w on.entry (p.labelled.laid l on.entry on.is))), not-true _ n);
     }
 
-    pub jump-other : r ≡ false → JumpIs image labels s env width at (Bad 8 at)
+    pub jump-same : not (pointwise eqb flat wanted) ≡ false → EndsIs a_jump g env at (Ok (at + 2))
     unfolding after need shown
-    jump-other t = record {
-      is = λ Σ Θ inner d Δ p k.
-          with' (known_is s (length labels) (at + 1) q h Θ p.many l e) λ w.
-          rw (w.2, ← (g Δ w.0 k (p.laid l w.0 w.1)), t);
+    jump-same n = record {
+      is = λ Σ Θ Δ f p k m.
+          let on = name-on Θ p.labelled.many h in
+          let two : at + 1 + 1 ≡ at + 2 = omega arith in
+          rw (on.reads, ← (compared Δ on.entry k e (w on.entry (p.labelled.laid l on.entry on.is))), not-false _ n, two);
     }
 
--- ---- signatures
+-- ---- invoke
 
--- a signature starts with its symbol count
-pub signature-count : (image : List ℕ) (sig : ℕ) (S : Signature) → Laid image sig (signature_bytes S) → get_or image sig 0 ≡ length S
-unfolding counted
-signature-count image sig S l = laid-byte image sig (length S) (flat_map parameters_bytes S) l
+-- what `ok_or` makes of an option, of which both cases are known
+pub matched : {A E : Type 0} (P : Type 0) (Q : A → Type 0) (o : Option A) (e : E) {r : Result A E} → r ≡ ok_or o e → MatchOption o P Q → MatchResult r Q (λ f. P × (f ≡ e))
+matched P Q o e h m = rw h (go o m)
+  where
+    go : (o : Option _) → MatchOption o P Q → MatchResult (ok_or o e) Q (λ f. P × (f ≡ e))
+    go None m = (m, refl)
+    go (Some x) m = m
 
-pub signature-inside : (image : List ℕ) (sig : ℕ) → SignatureAt image sig → sig < length image
-unfolding counted
-signature-inside image sig p = omega (arith, laid-inside image sig (length p.signature) (flat_map parameters_bytes p.signature) p.laid)
+-- the last entry, where it is a consumer
+consumer : (l : List ℕ) {rest : List (List ℕ)} {Δ : Environment} → LastIs Δ l rest → get_or l 0 0 ≡ 1 → last Δ ≡ some (cns (get_or l 1 0))
+consumer l it one = it.is ∙ ap some (go it.entry (ap (λ b. get_or b 0 0) it.value ∙ one) (ap (λ b. get_or b 1 0) it.value))
+  where
+    go : (u : Ty) → kind_byte u ≡ 1 → number_byte u ≡ get_or l 1 0 → u ≡ cns (get_or l 1 0)
+    go (prd k) i j = absurd (omega arith)
+    go (cns k) i j = ap cns j
+    go ext i j = absurd (omega arith)
 
--- what a search for the symbol m finds
-abbrev pub Symbol : List ℕ → ℕ → ℕ → ℕ → Type 0
-Symbol image sig m list = (S : Signature) (Γ : Environment) → Laid image sig (signature_bytes S) → At S m Γ → Laid image list (parameters_bytes Γ)
+other : (u : Ty) → (kind_byte u ≡ 1 → ⊥) → consumes u ≡ none
+other (prd k) n = refl
+other (cns k) n = absurd (n refl)
+other ext n = refl
 
--- for a known symbol that is where a list of parameters stands
-pub symbol-list : (image : List ℕ) (sig m list : ℕ) → SignatureAt image sig → m < get_or image sig 0 → Symbol image sig m list → ParametersAt image list
-symbol-list image sig m list p h f =
-    with' (at_some p.signature m (rw (signature-count image sig p.signature p.laid) at h)) λ a.
-    record { parameters = a.0; laid = f p.signature a.0 p.laid a.1 }
+-- the signature that a consumer names
+its-signature : (g : Region) (t : ℕ) {sig : ℕ} → sig ≡ get_or g.sigs.now t 0 → t < length g.sigs.now → (Σ : List Signature) → Placed signature_bytes g.image.now g.sigs.now Σ
+    → (S : Signature) × At Σ t S × Laid g.image.now sig (signature_bytes S)
+its-signature g t e b Σ p =
+    with' (at_some Σ t (omega (arith, p.many))) λ a.
+    (a.0, a.1, rw e (p.laid t a.0 a.1))
 
--- the signature that the byte behind a code names, and how many symbols it has
-pub at-signature : (image sigs s : List ℕ) (at : ℕ) (q : Name) → NameIs s (length sigs) (at + 1) q → (t : ℕ) → q ≡ Is t → (Σ : List Signature) → Placed signature_bytes image sigs Σ
-    → (S : Signature) × Laid image (get_or sigs t 0) (signature_bytes S) × (get_or image (get_or sigs t 0) 0 ≡ length S) × (known Σ (at + 1) (drop (at + 1) s) ≡ got (t, S) (at + 1 + 1) (drop (at + 1 + 1) s))
-at-signature image sigs s at q h t e Σ p =
-    with' (known_is s (length sigs) (at + 1) q h Σ p.many t e) λ w.
-    let l : Laid image (get_or sigs t 0) (signature_bytes w.0) = p.laid t w.0 w.1 in
-    (w.0, l, signature-count image (get_or sigs t 0) w.0 l, w.2)
+module _ {g : Region} {env : Env} {at : ℕ} (entries : List (List ℕ)) (x : entries ≡ take env.width env.types) where
+  pub invoke-none : {f : Fault} → (length entries ≡ 0) × (f ≡ fault-at Untyped at) → EndsIs an_invoke g env at (Err f)
+  unfolding after the shown
+  invoke-none z = record { is = λ Σ Θ Δ f p k m. rw (z.1, at_none Δ (length Δ - 1) (omega (arith, z.0, ap length (x ∙ k), length-map Δ type_bytes))) }
+
+  module _ (l : List ℕ) (rest : List (List ℕ)) (split : IsLastAndRest entries l rest) where
+    pub invoke-kind : (get_or l 0 0 ≡ 1 → ⊥) → EndsIs an_invoke g env at (Err (fault-at Untyped at))
+    unfolding after the shown
+    invoke-kind n = record {
+      is = λ Σ Θ Δ f p k m.
+          let it = last-is split Δ (x ∙ k) in
+          rw (it.is, other it.entry (λ e. n (sym (ap (λ b. get_or b 0 0) it.value) ∙ e)));
+    }
+
+    module _ (one : get_or l 0 0 ≡ 1) where
+      pub invoke-signature : {f : Fault} → (length g.sigs.now ≤ get_or l 1 0) × (f ≡ fault-at Untyped at) → EndsIs an_invoke g env at (Err f)
+      unfolding after the shown
+      invoke-signature y = record { is = λ Σ Θ Δ f p k m. rw (y.1, consumer l (last-is split Δ (x ∙ k)) one, at_none Σ (get_or l 1 0) (omega (arith, y.0, p.signed.many))) }
+
+      module _ {sig : ℕ} (e : sig ≡ get_or g.sigs.now (get_or l 1 0) 0) (b : get_or l 1 0 < length g.sigs.now) where
+        pub invoke-symbol : {f : Fault} → NameIs g.bytes.now (get_or g.image.now sig 0) (at + 1) (Err f) → EndsIs an_invoke g env at (Err f)
+        unfolding after the shown
+        invoke-symbol h = record {
+          is = λ Σ Θ Δ f p k m.
+              with' (its-signature g (get_or l 1 0) e b Σ p.signed) λ S.
+              rw (consumer l (last-is split Δ (x ∙ k)) one, S.1, name-bad S.0 (signature-count S.0 S.2) h);
+        }
+
+        module _ {m : ℕ} (h : NameIs g.bytes.now (get_or g.image.now sig 0) (at + 1) (Ok m)) {list : ℕ} (s : SymbolAt g.image.now sig m list) {flat wanted : List ℕ} (w : flat ≡ flattened rest)
+            (v : (Γ : Environment) → Laid g.image.now list (parameters_bytes Γ) → wanted ≡ bytes Γ) where
+          -- all but the last entry are compared with the symbol's parameters
+          compared-rest : (r : Walk) (c : Bool) → pointwise eqb flat wanted ≡ c
+              → shown g.bytes.now r ≡ forget (after (need c 8 at (at + 2) (drop (at + 2) g.bytes.now)) (λ _. give (invoke m))) → EndsIs an_invoke g env at r
+          unfolding after the
+          compared-rest r c z y = record {
+            is = λ Σ Θ Δ f p k n.
+                with' (its-signature g (get_or l 1 0) e b Σ p.signed) λ S.
+                let it = last-is split Δ (x ∙ k) in
+                let on = name-on S.0 (signature-count S.0 S.2) h in
+                let two : at + 1 + 1 ≡ at + 2 = omega arith in
+                rw (consumer l it one, S.1, on.reads, ← (compared (front Δ 1) on.entry it.others w (v on.entry (s S.0 on.entry S.2 on.is))), z, two) (sym y);
+          }
+
+          pub invoke-other : not (pointwise eqb flat wanted) ≡ true → EndsIs an_invoke g env at (Err (fault-at Untyped at))
+          unfolding after need shown
+          invoke-other n = compared-rest (Err (fault-at Untyped at)) false (not-true _ n) refl
+
+          pub invoke-same : not (pointwise eqb flat wanted) ≡ false → EndsIs an_invoke g env at (Ok (at + 2))
+          unfolding after need shown
+          invoke-same n = compared-rest (Ok (at + 2)) true (not-false _ n) refl
 
 -- ---- let
 
-module _ (image sigs s : List ℕ) (env : List (List ℕ)) (full : length env ≡ 32) (width : ℕ) (narrow : width ≤ 32) (at : ℕ) (q : Name) (h : NameIs s (length sigs) (at + 1) q) where
-  -- the tests in their order: signature, symbol, last entries, width; then on to the remainder
-  pub let-signature : (n o : ℕ) → q ≡ Not n o → LetIs image sigs s env width at (Fails n o)
+-- an environment that holds entries or has no place for them, as an option of which both cases are known
+held-or : (o : Option Env) (Δ : Environment) → HeldOr o Δ → MatchOption o (32 < length Δ) (λ env. Held env Δ)
+held-or None Δ h = h
+held-or (Some env) Δ h = h
+
+-- a symbol's parameters, read, and what the comparison with the last entries says
+record Fields (s : List ℕ) (at m : ℕ) (flat fields : List ℕ) (S : Signature) (Δ : Environment) : Type 0 where
+  pub types : Environment
+  pub reads : known S (at + 2) (drop (at + 2) s) ≡ got (m, types) (at + 3) (drop (at + 3) s)
+  pub bytes : fields ≡ bytes types
+  pub ends : pointwise eqb fields (drop (length flat - length fields) flat) ≡ same_types (back Δ (length types)) types
+
+fields-read : {s image : List ℕ} {sig at m list : ℕ} → NameIs s (get_or image sig 0) (at + 2) (Ok m) → SymbolAt image sig m list
+    → {entries : List (List ℕ)} {flat fields : List ℕ} → flat ≡ flattened entries → ((Γ : Environment) → Laid image list (parameters_bytes Γ) → fields ≡ bytes Γ)
+    → (S : Signature) → Laid image sig (signature_bytes S) → (Δ : Environment) → entries ≡ map type_bytes Δ → Fields s at m flat fields S Δ
+fields-read {at = at} h f w v S l Δ k =
+    let on = name-on S (signature-count S l) h in
+    let three : at + 2 + 1 ≡ at + 3 = omega arith in
+    let b = v on.entry (f S on.entry l on.is) in
+    record { types = on.entry; reads = rw three at on.reads; bytes = b; ends = compared-end Δ on.entry k w b }
+
+-- the entries before the fields, and the one that comes in the fields' place
+held-next : (env : Env) {s : List ℕ} {at m : ℕ} (t : ℕ) {flat fields : List ℕ} → flat ≡ flattened (take env.width env.types) → pointwise eqb fields (drop (length flat - length fields) flat) ≡ true
+    → (next : Option Env) → ((Δ : Environment) → Holds env.types (env.width - length fields / 2) Δ → HeldOr next (Δ ++ (prd t ∷ [])))
+    → {S : Signature} {Δ : Environment} → Held env Δ → (it : Fields s at m flat fields S Δ) → HeldOr next (front Δ (length it.types) ++ (prd t ∷ []))
+held-next env t {flat = flat} {fields = fields} w z next push {Δ = Δ} k it =
+    let same : length fields ≡ length (drop (length flat - length fields) flat) = pointwise_long eqb fields _ z in
+    let m : length flat ≡ length Δ + length Δ = ap length (w ∙ ap flattened k ∙ flattened-map Δ) ∙ types-length Δ in
+    let n : length Δ ≡ env.width = holds-length env.types env.full env.width env.narrow Δ k in
+    let c : length fields ≡ length it.types + length it.types = ap length it.bytes ∙ types-length it.types in
+    let half : length fields / 2 ≡ length it.types = omega arith in
+    push (front Δ (length it.types)) (rw half (holds-front env.types env.full env.width env.narrow Δ k (length it.types) (omega (arith, same, length-drop (length flat - length fields) flat))))
+
+module _ {g : Region} {env : Env} {at : ℕ} where
+  pub let-signature : {f : Fault} → NameIs g.bytes.now (length g.sigs.now) (at + 1) (Err f) → GoesIs a_let g env at (Err f)
   unfolding after
-  let-signature n o e = let_fails {n = n} {o = o} (λ Σ Θ inner d Δ p k. rw (known-not s (length sigs) (at + 1) q h Σ p.many n o e))
+  let-signature h = stops (λ Σ Θ Δ f p k n. rw (name-bad Σ p.signed.many h))
 
-  module _ (t : ℕ) (e : q ≡ Is t) (q' : Name) (h' : NameIs s (get_or image (get_or sigs t 0) 0) (at + 1 + 1) q') where
-    pub let-symbol : (n o : ℕ) → q' ≡ Not n o → LetIs image sigs s env width at (Fails n o)
+  module _ {t : ℕ} (h : NameIs g.bytes.now (length g.sigs.now) (at + 1) (Ok t)) where
+    pub let-symbol : {f : Fault} → NameIs g.bytes.now (get_or g.image.now (get_or g.sigs.now t 0) 0) (at + 2) (Err f) → GoesIs a_let g env at (Err f)
     unfolding after
-    let-symbol n o e' = let_fails {n = n} {o = o} (λ Σ Θ inner d Δ p k.
-        with' (at-signature image sigs s at q h t e Σ p) λ w.
-        rw (w.3, known-not s (get_or image (get_or sigs t 0) 0) (at + 1 + 1) q' h' w.0 w.2 n o e'))
+    let-symbol h' = stops (λ Σ Θ Δ f p k n.
+        let on = name-on Σ p.signed.many h in
+        let two : at + 1 + 1 ≡ at + 2 = omega arith in
+        rw (on.reads, two, name-bad on.entry (signature-count on.entry (p.signed.laid t on.entry on.is)) h'))
 
-    module _ (m : ℕ) (e' : q' ≡ Is m) (list : ℕ) (f : Symbol image (get_or sigs t 0) m list) (r : Bool) (g : EndsWith image env width list r) where
-      -- the parameters, and what the comparison with the last entries says
-      at_symbol : (S : Signature) → Laid image (get_or sigs t 0) (signature_bytes S) → get_or image (get_or sigs t 0) 0 ≡ length S → (Δ : Environment) → Holds env width Δ
-          → (Γ : Environment) × (get_or image list 0 ≡ length Γ) × (r ≡ same_types (back Δ (length Γ)) Γ) × (known S (at + 1 + 1) (drop (at + 1 + 1) s) ≡ got (m, Γ) (at + 1 + 1 + 1) (drop (at + 1 + 1 + 1) s))
-      at_symbol S l n Δ k =
-          with' (known_is s (get_or image (get_or sigs t 0) 0) (at + 1 + 1) q' h' S n m e') λ w.
-          let y : Laid image list (parameters_bytes w.0) = f S w.0 l w.1 in
-          (w.0, (parameters-at image list w.0 y).count, g Δ w.0 k y, w.2)
-
-      pub let-other : r ≡ false → LetIs image sigs s env width at (Fails 8 at)
+    module _ {m : ℕ} (h' : NameIs g.bytes.now (get_or g.image.now (get_or g.sigs.now t 0) 0) (at + 2) (Ok m)) {list : ℕ} (s : SymbolAt g.image.now (get_or g.sigs.now t 0) m list)
+        {flat fields : List ℕ} (w : flat ≡ flattened (take env.width env.types)) (v : (Γ : Environment) → Laid g.image.now list (parameters_bytes Γ) → fields ≡ bytes Γ) where
+      pub let-other : pointwise eqb fields (drop (length flat - length fields) flat) ≡ false → GoesIs a_let g env at (Err (fault-at Untyped at))
       unfolding after need
-      let-other z = let_fails {n = 8} {o = at} (λ Σ Θ inner d Δ p k.
-          with' (at-signature image sigs s at q h t e Σ p) λ w.
-          with' (at_symbol w.0 w.1 w.2 Δ k) λ v.
-          rw (w.3, v.3, ← v.2, z))
+      let-other z = stops (λ Σ Θ Δ f p k n.
+          let on = name-on Σ p.signed.many h in
+          let two : at + 1 + 1 ≡ at + 2 = omega arith in
+          let it = fields-read h' s w v on.entry (p.signed.laid t on.entry on.is) Δ k in
+          rw (on.reads, two, it.reads, ← it.ends, z))
 
-      -- how wide the environment of the remainder is
-      kept-length : (Γ Δ : Environment) (u : Ty) → Holds env width Δ → get_or image list 0 ≡ length Γ → get_or image list 0 ≤ width → length (front Δ (length Γ) ++ (u ∷ [])) ≡ suc (width - get_or image list 0)
-      kept-length Γ Δ u k n b =
-          let x : Holds env (width - length Γ) (front Δ (length Γ)) = holds-front env full width narrow Δ k (length Γ) (omega arith) in
-          rw (length-append, holds-length env full (width - length Γ) (omega arith) (front Δ (length Γ)) x, n) (omega arith)
+      module _ (z : pointwise eqb fields (drop (length flat - length fields) flat) ≡ true) (next : Option Env)
+          (push : (Δ : Environment) → Holds env.types (env.width - length fields / 2) Δ → HeldOr next (Δ ++ (prd t ∷ []))) where
+        pub let-wide : {f : Fault} (e : Fault) → Err f ≡ ok_or next e → e ≡ fault-at Wide at → GoesIs a_let g env at (Err f)
+        unfolding after need
+        let-wide e r y = stops (λ Σ Θ Δ f p k n.
+            let on = name-on Σ p.signed.many h in
+            let two : at + 1 + 1 ≡ at + 2 = omega arith in
+            let it = fields-read h' s w v on.entry (p.signed.laid t on.entry on.is) Δ k in
+            let l = front Δ (length it.types) ++ (prd t ∷ []) in
+            let x = matched _ _ _ _ r (held-or next l (held-next env t w z next push k it)) in
+            rw (on.reads, two, it.reads, ← it.ends, z, lt-leb (length l) widest x.0, x.1, y))
 
-      pub let-wide : r ≡ true → get_or image list 0 ≤ width → width - get_or image list 0 ≡ 32 → LetIs image sigs s env width at (Fails 5 at)
-      unfolding after need
-      let-wide z b y = let_fails {n = 5} {o = at} (λ Σ Θ inner d Δ p k.
-          with' (at-signature image sigs s at q h t e Σ p) λ w.
-          with' (at_symbol w.0 w.1 w.2 Δ k) λ v.
-          rw (w.3, v.3, ← v.2, z, lt-leb (length (front Δ (length v.0) ++ (prd t ∷ []))) widest (rw (kept-length v.0 Δ (prd t) k v.1 b) (omega arith))))
+        pub let-goes : {env' : Env} (e : Fault) → Ok env' ≡ ok_or next e → GoesIs a_let g env at (Ok (at + 3, env'))
+        unfolding after need
+        let-goes {env' = env'} e r = goes (omega arith) (omega (arith, (name-value h').0)) (λ Σ Θ Δ f p k n.
+            let on = name-on Σ p.signed.many h in
+            let two : at + 1 + 1 ≡ at + 2 = omega arith in
+            let it = fields-read h' s w v on.entry (p.signed.laid t on.entry on.is) Δ k in
+            let l = front Δ (length it.types) ++ (prd t ∷ []) in
+            let x = matched _ _ _ _ r (held-or next l (held-next env t w z next push k it)) in
+            let narrow : length l ≤ widest = omega (arith, holds-length env'.types env'.full env'.width env'.narrow l x, env'.narrow) in
+            (l, x, rw (on.reads, two, it.reads, ← it.ends, z, le-leb (length l) widest narrow) (forget-after (statement Σ Θ f g.depth l (at + 3) (drop (at + 3) g.bytes.now)) (λ u. let' t m u))))
 
-      pub let-goes : r ≡ true → get_or image list 0 ≤ width → (width - get_or image list 0 ≡ 32 → ⊥) → LetIs image sigs s env width at (To (at + 1 + 1 + 1) (width - get_or image list 0 + 1))
-      unfolding after need
-      let-goes z b y =
-          let x : (at + 1 + 1 < length s) × (m ≡ get_or s (at + 1 + 1) 0) × (m < get_or image (get_or sigs t 0) 0) = name-is s (get_or image (get_or sigs t 0) 0) (at + 1 + 1) q' h' m e' in
-          let_goes {on = at + 1 + 1 + 1} {kept = width - get_or image list 0} {wide = width - get_or image list 0 + 1} refl (omega arith) (omega arith) refl (λ Σ Θ inner d Δ p k.
-          with' (at-signature image sigs s at q h t e Σ p) λ w.
-          with' (at_symbol w.0 w.1 w.2 Δ k) λ v. (
-            front Δ (length v.0),
-            rw v.1 (holds-front env full width narrow Δ k (length v.0) (omega arith)),
-            rw (w.3, v.3, ← v.2, z, le-leb (length (front Δ (length v.0) ++ (prd t ∷ []))) widest (rw (kept-length v.0 Δ (prd t) k v.1 b) (omega arith)), ← (name-is s (length sigs) (at + 1) q h t e).1)
-                (forget-after (inner d (front Δ (length v.0) ++ (prd t ∷ [])) (at + 1 + 1 + 1) (drop (at + 1 + 1 + 1) s)) (λ u. let' t m u)),
-          ))
+-- ---- substitute
 
-pub false-true : ◌≡◌ {A = Bool} false true → ⊥
-false-true q = let z : ◌≡◌ {A = ℕ} 0 1 = cc in omega arith
+-- one more position
+position-more : (Δ : Environment) (n q b : ℕ) (t : Ty) (zs : List ℕ) (ts : List (ℕ × Ty)) (e : ℕ) → At Δ b t → times n (known Δ) (suc q) zs ≡ got ts e []
+    → times (suc n) (known Δ) q (b ∷ zs) ≡ got ((b, t) ∷ ts) e []
+unfolding after the byte
+position-more Δ n q b t zs ts e a h = rw (a, h)
 
--- offsets of lists and signatures are inside the image
-pub list_inside : (image : List ℕ) (list : ℕ) → ParametersAt image list → list < length image
-list_inside image list p = omega (arith, count-inside image list p)
+-- positions are read in a part of the bytes, from any offset, as they are in the whole
+positions-in : (Δ : Environment) (n p q : ℕ) (xs : List ℕ) (l : List (ℕ × Ty)) {e : ℕ} {ys : List ℕ} → times n (known Δ) p xs ≡ got l e ys → times n (known Δ) q (take n xs) ≡ got l (q + n) []
+positions-in Δ zero p q xs l h = let z : [] ≡ l = cc in rw (← z) (same_place (omega arith))
+positions-in Δ (suc n) p q xs l h =
+    known-then Δ p xs _ h λ b t zs e a h1.
+    then _ (times n (known Δ) (suc p) zs) _ h1 λ ts at ws h2 h3.
+    let z : (b, t) ∷ ts ≡ l = cc in
+    rw (e, ← z) (position-more Δ n q b t (take n zs) ts (suc q + n) a (positions-in Δ n (suc p) (suc q) zs ts h2) ∙ same_place (omega arith))
 
-pub offset-inside : {image sigs : List ℕ} → Known signature_bytes image sigs → (i : ℕ) → i < length sigs → get_or sigs i 0 < length image
-offset-inside {image} k i h = signature-inside image _ (signature_at k i h)
+module _ {g : Region} {env : Env} {at : ℕ} where
+  pub substitute-count : {f : Fault} → CountIs g.bytes.now 0 32 (at + 1) (Err f) → GoesIs a_substitute g env at (Err f)
+  unfolding after
+  substitute-count h = stops (λ Σ Θ Δ f p k m. rw (count-bad h))
 
-pub offset-within : {image sigs : List ℕ} → Known signature_bytes image sigs → (i : ℕ) → i < length sigs → get_or sigs i 0 ≤ length image
-offset-within k i h = omega (arith, offset-inside k i h)
+  module _ {n : ℕ} (h : CountIs g.bytes.now 0 32 (at + 1) (Ok n)) where
+    pub substitute-position : {f : Fault} → Positions g.bytes.now env.width (at + 2) n (Err f) → GoesIs a_substitute g env at (Err f)
+    unfolding after
+    substitute-position {f = e} q = stops (λ Σ Θ Δ f p k m.
+        let two : at + 1 + 1 ≡ at + 2 = omega arith in
+        let r = q.reads Δ (holds-length env.types env.full env.width env.narrow Δ k) in
+        rw ((count-on h).reads, two, shown-bad g.bytes.now (times n (known Δ) (at + 2) (drop (at + 2) g.bytes.now)) (Err e) e r refl))
+
+    pub substitute-goes : {on : ℕ} {env' : Env} → Within (at + 2) g.bytes.now (Ok on) → Positions g.bytes.now env.width (at + 2) n (Ok on)
+        → NamedIs env (take (on - (at + 2)) (drop (at + 2) g.bytes.now)) env' → GoesIs a_substitute g env at (Ok (on, env'))
+    unfolding after
+    substitute-goes {on = on} {env' = env'} w q named = goes (omega (arith, w.0)) w.1 (λ Σ Θ Δ f p k m.
+        let two : at + 1 + 1 ≡ at + 2 = omega arith in
+        let many : on - (at + 2) ≡ n = omega (arith, q.ended on refl) in
+        let part : List ℕ = take n (drop (at + 2) g.bytes.now) in
+        let wide : length Δ ≡ env.width = holds-length env.types env.full env.width env.narrow Δ k in
+        let long : length part ≡ n = length-take-le n (drop (at + 2) g.bytes.now) (omega (arith, w, q.ended on refl, length-drop (at + 2) g.bytes.now)) in
+        with' (shown-on g.bytes.now (times n (known Δ) (at + 2) (drop (at + 2) g.bytes.now)) (Ok on) on (q.reads Δ wide) refl) λ v.
+        let read : times (length part) (known Δ) 0 part ≡ got v.0 (length part) [] = rw long (positions-in Δ n (at + 2) 0 (drop (at + 2) g.bytes.now) v.0 v.1 ∙ same_place (zero-add n)) in (
+          map (λ t. t.1) v.0,
+          (rw many at named).holds Δ k v.0 read,
+          rw ((count-on h).reads, two, v.1) (forget-after (statement Σ Θ f g.depth (map (λ t. t.1) v.0) on (drop on g.bytes.now)) (λ u. substitute (map (λ t. t.0) v.0) u)),
+        ))

@@ -1,8 +1,7 @@
 -- What stands at an offset, and what an array of types holds. Assumes nothing.
-use Prim.Native.Nat.{ℕ, zero, suc, ◌+◌, ◌-◌, ◌≤◌, ◌<◌}
+use Prim.Native.Nat.{ℕ, zero, suc, ◌+◌, ◌-◌, ◌*◌, ◌≤◌, ◌<◌}
 use mathlib.Core.Path.{◌≡◌, refl, ap, sym, ◌∙◌}
 use mathlib.Core.List.{List, [], ◌∷◌, ◌++◌, append_assoc, map, flat_map}
-use mathlib.Core.Bool.{Bool, true, false, ◌&&◌}
 use mathlib.Core.Option.{Option, none, some}
 use native.Mathlib.Nat.{zero-add, suc-add}
 use native.Mathlib.Omega.{arith}
@@ -12,7 +11,6 @@ use Rattle.definitions.specs.Terms.{Environment}
 use Rattle.definitions.specs.Typing.{At}
 use Rattle.definitions.specs.Layout.{type_bytes, counted}
 use Rattle.definitions.specs.Ends.{front, back}
-use Rattle.definitions.specs.FirstFault.{same_type, same_types}
 use Rattle.checker.specs.Laid.{Laid, Holds, parameters_bytes}
 
 -- ---- bytes at an offset
@@ -67,6 +65,12 @@ parameters-at s list Γ l =
       types = rw (types-length Γ) at (laid-take s (list + 1) (flat_map type_bytes Γ) (laid-append s list (length Γ ∷ []) (flat_map type_bytes Γ) l));
     }
 
+-- a list of parameters that stands somewhere is inside
+pub list-inside : (s : List ℕ) (list : ℕ) (Γ : Environment) → Laid s list (parameters_bytes Γ) → list + 1 + 2 * get_or s list 0 ≤ length s
+list-inside s list Γ l =
+    let q : Parameters s list Γ = parameters-at s list Γ l in
+    omega (arith, q.count, q.inside)
+
 -- ---- entries of a list
 
 -- a number below the length names an entry, and no other does
@@ -79,16 +83,6 @@ pub at_none : {A : Type 0} (l : List A) (i : ℕ) → length l ≤ i → get_ele
 at_none [] i h = refl
 at_none (x ∷ l) zero h = absurd (omega arith)
 at_none (x ∷ l) (suc i) h = at_none l i (omega arith)
-
--- a number that is none of the first seven
-pub beyond-six : (k : ℕ) → (k ≡ 0 → ⊥) → (k ≡ 1 → ⊥) → (k ≡ 2 → ⊥) → (k ≡ 3 → ⊥) → (k ≡ 4 → ⊥) → (k ≡ 5 → ⊥) → (k ≡ 6 → ⊥) → 7 ≤ k
-beyond-six k n0 n1 n2 n3 n4 n5 n6 = later k (early k n0 n1 n2 n3) n4 n5 n6
-  where
-    early : (k : ℕ) → (k ≡ 0 → ⊥) → (k ≡ 1 → ⊥) → (k ≡ 2 → ⊥) → (k ≡ 3 → ⊥) → 4 ≤ k
-    early k n0 n1 n2 n3 = omega arith
-
-    later : (k : ℕ) → 4 ≤ k → (k ≡ 4 → ⊥) → (k ≡ 5 → ⊥) → (k ≡ 6 → ⊥) → 7 ≤ k
-    later k l n4 n5 n6 = omega arith
 
 -- an entry of a part
 pub part_at : {A : Type 0} (l part : List A) (at n : ℕ) (d : A) → take n (drop at l) ≡ part → (j : ℕ) → j < n → get_or l (at + j) d ≡ get_or part j d
@@ -130,12 +124,6 @@ module _ {A : Type 0} (f : A → List ℕ) (env : List (List ℕ)) (width : ℕ)
   pub held-length : width ≤ length env → length l ≡ width
   held-length full = sym (length-map l f) ∙ ap length (sym held) ∙ length-take-le width env full
 
-  -- the entry that a position names
-  pub held-entry : width ≤ length env → (i : ℕ) → i < width → (a : A) × (At l i a × (get_or env i [] ≡ f a))
-  held-entry full i h =
-      let (a, e) = at_some l i (omega (arith, held-length full)) in
-      (a, (e, rw (held_at i h, e)))
-
   module _ (many : length l ≡ width) (n : ℕ) (h : n ≤ width) where
     -- the array's entries but the last n are the list's, and so are the last n
     pub held-front : take (width - n) env ≡ map f (front l n)
@@ -159,20 +147,3 @@ module _ (env : List (List ℕ)) (full : length env ≡ 32) (width : ℕ) (narro
 
   pub holds-front : (n : ℕ) → n ≤ width → Holds env (width - n) (front Δ n)
   holds-front = held-front type_bytes env width Δ h holds-length
-
-  pub holds-back : (n : ℕ) → n ≤ width → take n (drop (width - n) env) ≡ map type_bytes (back Δ n)
-  holds-back = held_back type_bytes env width Δ h holds-length
-
-  pub back-length : (n : ℕ) → n ≤ width → length (back Δ n) ≡ n
-  back-length n l = length_back Δ n (omega (arith, holds-length))
-
--- lists of different lengths differ
-pub same_types-lengths : (Δ Γ : Environment) → (length Δ ≡ length Γ → ⊥) → same_types Δ Γ ≡ false
-same_types-lengths [] [] n = absurd (n refl)
-same_types-lengths [] (u ∷ us) n = refl
-same_types-lengths (t ∷ ts) [] n = refl
-same_types-lengths (t ∷ ts) (u ∷ us) n = go (same_type t u) (same_types-lengths ts us (λ e. n (ap suc e)))
-  where
-    go : (b : Bool) → same_types ts us ≡ false → b && same_types ts us ≡ false
-    go true e = e
-    go false e = refl

@@ -1,27 +1,29 @@
--- From a walk's answer to the reader's; and the same reader again and again, by a loop that counts down. Assumes nothing.
-use Prim.Native.Nat.{ℕ, zero, suc, ◌-◌, ◌≤◌}
+-- From a walk's answer to the reader's; one reader after another, and the same again and again. Assumes nothing.
+use Prim.Native.Nat.{ℕ}
 use mathlib.Core.Path.{◌≡◌, refl}
 use mathlib.Core.List.{List, ◌∷◌}
 use native.Mathlib.Omega.{arith}
-use lib.ListN.{length, drop}
-use Rattle.definitions.specs.Reader.{fault, Read, got, refused, Reader, after, times}
-use Rattle.checker.specs.declared.Walk.{Walk}
-use Rattle.checker.specs.declared.Walk.TheVariants.{On, Bad}
-use Rattle.checker.specs.Shown.{forget, shown, Within}
+use lib.ListN.{drop}
+use Rattle.std.specs.Prelude.{Ok, Err}
+use Rattle.definitions.specs.Reader.{Read, got, refused, Reader, after, times}
+use Rattle.checker.specs.declared.faults.Fault.{Fault}
+use Rattle.checker.specs.Faults.{told}
+use Rattle.checker.specs.Shown.{Walk, forget, shown}
+use Rattle.checker.specs.Readers.{Repeated, done, fails, goes_on}
 
 -- ---- a reader's answer, from a walk's
 
 -- where the walk stopped, the reader refused
-pub shown-bad : {A : Type 0} (s : List ℕ) (m : Read A) (q : Walk) (n o : ℕ) → forget m ≡ shown s q → q ≡ Bad n o → m ≡ refused (fault n o)
+pub shown-bad : {A : Type 0} (s : List ℕ) (m : Read A) (q : Walk) (f : Fault) → forget m ≡ shown s q → q ≡ Err f → m ≡ refused (told f)
 unfolding shown
-shown-bad s m q n o h e = go m (rw e at h)
+shown-bad s m q f h e = go m (rw e at h)
   where
-    go : {A : Type 0} (m : Read A) → forget m ≡ refused (fault n o) → m ≡ refused (fault n o)
+    go : {A : Type 0} (m : Read A) → forget m ≡ refused (told f) → m ≡ refused (told f)
     go (got a at xs) h = let z : ◌≡◌ {A = ℕ} 0 1 = cc in absurd (omega arith)
     go (refused x) h = cc
 
 -- where the walk goes on, the reader gave something
-pub shown-on : {A : Type 0} (s : List ℕ) (m : Read A) (q : Walk) (e : ℕ) → forget m ≡ shown s q → q ≡ On e → (a : A) × (m ≡ got a e (drop e s))
+pub shown-on : {A : Type 0} (s : List ℕ) (m : Read A) (q : Walk) (e : ℕ) → forget m ≡ shown s q → q ≡ Ok e → (a : A) × (m ≡ got a e (drop e s))
 unfolding shown
 shown-on s m q e h g = go m (rw g at h)
   where
@@ -35,38 +37,26 @@ unfolding after
 forget-after (got a at xs) f = refl
 forget-after (refused x) f = refl
 
--- ---- the loop
+-- ---- one reader after another
 
-module _ {A : Type 0} (m : Reader A) (s : List ℕ) where
-  -- the answer of so many more readings from an offset on
-  abbrev pub Times : ℕ → ℕ → Walk → Type 0
-  Times n p r = forget (times n m p (drop p s)) ≡ shown s r
+module _ {A B : Type 0} (m : Read A) (f : A → Reader B) (s : List ℕ) where
+  -- the first reader's fault is the whole's; where it goes on, the second answers
+  pub after-bad : (e : Fault) → forget m ≡ shown s (Err e) → (r : Walk) → r ≡ Err e → forget (after m f) ≡ shown s r
+  unfolding after shown
+  after-bad e h r i = rw (i, shown-bad s m (Err e) e h refl)
 
-  -- no reading is left; below, the next one fails, or goes on to the others
-  pub times_none : (n p : ℕ) → n ≡ 0 → Times n p (On p)
-  unfolding shown
-  times_none n p e = rw e
+  pub after_on : (e : ℕ) → forget m ≡ shown s (Ok e) → (r : Walk) → ((a : A) → forget (f a e (drop e s)) ≡ shown s r) → forget (after m f) ≡ shown s r
+  unfolding after
+  after_on e h r t = let (a, w) = shown-on s m (Ok e) e h refl in rw w (t a)
 
-  module _ (n p : ℕ) (some : n ≡ 0 → ⊥) (q : Walk) (h : forget (m p (drop p s)) ≡ shown s q) where
-    pub times-bad : (k o : ℕ) → q ≡ Bad k o → Times n p (Bad k o)
-    unfolding after shown
-    times-bad k o e = go n some
-      where
-        go : (n : ℕ) → (n ≡ 0 → ⊥) → Times n p (Bad k o)
-        go zero z = absurd (z refl)
-        go (suc n) z = rw (shown-bad s (m p (drop p s)) q k o h e)
+-- ---- the same reader again and again
 
-    pub times-on : (e : ℕ) → q ≡ On e → (r : Walk) → Times (n - 1) e r → Times n p r
-    unfolding after
-    times-on e g r t = go n some t
-      where
-        go : (n : ℕ) → (n ≡ 0 → ⊥) → Times (n - 1) e r → Times n p r
-        go zero z t = absurd (z refl)
-        go (suc n) z t =
-            let (a, w) = shown-on s (m p (drop p s)) q e h g in
-            let l : suc n - 1 ≡ n = omega arith in
-            rw (w, forget-after (times n m e (drop e s)) (λ as'. a ∷ as')) (rw l at t)
-
--- where a walk that goes on is
-pub within_on : (at : ℕ) (s : List ℕ) (q : Walk) (e : ℕ) → Within at s q → q ≡ On e → (at ≤ e) × (e ≤ length s)
-within_on at s q e w g = rw g at w
+-- what is read each time is what a reader reads, so all of it is what that reader reads so many times
+pub repeated-times : {A : Type 0} (m : Reader A) (s : List ℕ) (reads : ℕ → Walk → Type 0) → ((p : ℕ) (r : Walk) → reads p r → forget (m p (drop p s)) ≡ shown s r)
+    → (n p : ℕ) (r : Walk) → Repeated reads n p r → forget (times n m p (drop p s)) ≡ shown s r
+unfolding after shown
+repeated-times m s reads each _ p _ done = refl
+repeated-times m s reads each _ p _ (fails {f = f} b) = rw (shown-bad s (m p (drop p s)) (Err f) f (each p (Err f) b) refl)
+repeated-times m s reads each _ p r (goes_on {n = n} {next = next} b rest) =
+    let (a, w) = shown-on s (m p (drop p s)) (Ok next) next (each p (Ok next) b) refl in
+    rw (w, forget-after (times n m next (drop next s)) (λ as'. a ∷ as')) (repeated-times m s reads each n next r rest)

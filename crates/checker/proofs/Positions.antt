@@ -1,63 +1,87 @@
 -- Positions in an environment: the walk over them, and the entries that they name. Assumes nothing.
-use Prim.Native.Nat.{ℕ, zero, suc, ◌+◌, ◌≤◌, ◌<◌}
-use mathlib.Core.Path.{◌≡◌, ap, sym, ◌∙◌}
+use Prim.Native.Nat.{ℕ, zero, suc, ◌+◌, ◌-◌, ◌≤◌, ◌<◌}
+use mathlib.Core.Path.{◌≡◌, refl, ap, sym, ◌∙◌}
 use mathlib.Core.List.{List, [], ◌∷◌, map}
 use mathlib.Core.Option.{some}
 use native.Mathlib.Omega.{arith}
 use lib.ListN.{length, get_or, get_elem?, take, drop, length-map}
 use lib.Seq.{get_or-drop}
-use borrow.Author.Count.{below_more}
+use Rattle.std.proofs.lemmas.List.{length-take}
+use Rattle.std.specs.Prelude.{Ok, Err}
 use Rattle.definitions.specs.Terms.{Environment}
-use Rattle.definitions.specs.Layout.{type_bytes}
-use Rattle.definitions.specs.Reader.{got, after, need, the, times, known}
-use Rattle.definitions.specs.FirstFault.{argument}
+use Rattle.definitions.specs.Reader.{got, Reader, after, times, known}
 use Rattle.exactness.proofs.Readers.{then, known-then}
-use Rattle.checker.specs.declared.Walk.{Walk}
-use Rattle.checker.specs.declared.Walk.TheVariants.{On, Bad}
-use Rattle.checker.specs.Shown.{forget, shown}
-use Rattle.checker.specs.Laid.{Holds}
+use Rattle.checker.specs.declared.faults.Fault.{Fault}
+use Rattle.checker.specs.Shown.{Walk, forget, shown}
 use Rattle.checker.specs.Entries.{Below, Positions}
-use Rattle.checker.proofs.Bytes.{byte-end, byte_at}
-use Rattle.checker.proofs.TypeLaws.{ext-other, ext_same}
-use Rattle.checker.proofs.Lists.{at_some, at_none, written_at, held_at, held-length, held-entry}
+use Rattle.checker.specs.Readers.{NameIs, Repeated, done, fails, goes_on}
+use Rattle.checker.proofs.ReaderLaws.{name-on, name-bad, name-value}
+use Rattle.checker.proofs.Lists.{written_at, held_at, part_at}
+use Rattle.checker.proofs.Loops.{forget-after, repeated-times}
 use Rattle.checker.proofs.Filling.{Filled, fill-all}
-
--- ---- one position
-
-module _ {A : Type 0} (l : List A) (s : List ℕ) (at : ℕ) where
-  pub known-end : at ≡ length s → forget (known l at (drop at s)) ≡ shown s (Bad 3 at)
-  unfolding after shown
-  known-end e = rw (byte-end s at e)
-
-  module _ (more : at < length s) where
-    pub known-far : length l ≤ get_or s at 0 → forget (known l at (drop at s)) ≡ shown s (Bad 7 at)
-    unfolding after the shown
-    known-far h = rw (byte_at s at more, at_none l (get_or s at 0) h)
-
-    pub known_on : get_or s at 0 < length l → forget (known l at (drop at s)) ≡ shown s (On (at + 1))
-    unfolding after the shown
-    known_on h = let (a, e) = at_some l (get_or s at 0) h in rw (byte_at s at more, e)
 
 -- ---- positions, one after another
 
-bad-on : {n o e : ℕ} → Bad n o ≡ On e → ⊥
+bad-on : {f : Fault} {e : ℕ} → ◌≡◌ {A = Walk} (Err f) (Ok e) → ⊥
 bad-on g = let z : ◌≡◌ {A = ℕ} 0 1 = cc in omega arith
 
 -- a fault says nothing of where positions end
-pub positions-bad : (s : List ℕ) (width at count n o : ℕ) → ((Δ : Environment) → length Δ ≡ width → forget (times count (known Δ) at (drop at s)) ≡ shown s (Bad n o)) → Positions s width at count (Bad n o)
-positions-bad s width at count n o h = record { reads = h; ended = λ e g. absurd (bad-on g); below = λ e g. absurd (bad-on g) }
+positions-bad : (s : List ℕ) (width at count : ℕ) (f : Fault)
+    → ((Δ : Environment) → length Δ ≡ width → forget (times count (known Δ) at (drop at s)) ≡ shown s (Err f)) → Positions s width at count (Err f)
+positions-bad s width at count f h = record { reads = h; ended = λ e g. absurd (bad-on g); below = λ e g. absurd (bad-on g) }
 
-pub positions-on : (s : List ℕ) (width at count p : ℕ) → p ≡ at + count → Below s at count width → ((Δ : Environment) → length Δ ≡ width → forget (times count (known Δ) at (drop at s)) ≡ shown s (On p)) → Positions s width at count (On p)
-positions-on s width at count p q b h = record { reads = h; ended = λ e g. let z : p ≡ e = cc in omega arith; below = λ e g. b }
+module _ {s : List ℕ} {width : ℕ} where
+  -- one position: there is none, or none that is known, or there is
+  pub position-bad : {at : ℕ} {f : Fault} → NameIs s width at (Err f) → Positions s width at 1 (Err f)
+  unfolding after shown
+  position-bad {at} {f} n = positions-bad s width at 1 f λ Δ m. rw (name-bad Δ (sym m) n)
 
--- one position more that is below the bound
-pub below_next : (s : List ℕ) (at i p bound j : ℕ) → p ≡ at + i → Below s at i bound → get_or s p 0 < bound → j ≡ i + 1 → Below s at j bound
-below_next s at i p bound j q b h e k l = below_more (λ (k : ℕ). get_or s (at + k) 0 < bound) i b (rw q at h) k (omega arith)
+  pub position-on : {at i : ℕ} → NameIs s width at (Ok i) → Positions s width at 1 (Ok (at + 1))
+  unfolding after shown
+  position-on {at} {i} n = record {
+    reads = λ Δ m. rw (name-on Δ (sym m) n).reads;
+    ended = λ e g. cc;
+    below = λ e g k h. let z : at + k ≡ at = omega arith in rw z (omega (arith, name-value n));
+  }
+
+-- one reading is the reader's
+times-one : {A : Type 0} (m : Reader A) (at : ℕ) (xs : List ℕ) → forget (times 1 m at xs) ≡ forget (m at xs)
+unfolding after
+times-one m at xs = forget-after (m at xs) (λ a. a ∷ [])
+
+-- positions one by one are so many positions
+module _ (s : List ℕ) (width : ℕ) (reads : ℕ → Walk → Type 0) (each : (p : ℕ) (r : Walk) → reads p r → Positions s width p 1 r) where
+  ends : (n at : ℕ) (r : Walk) → Repeated reads n at r → (e : ℕ) → r ≡ Ok e → (e ≡ at + n) × Below s at n width
+  ends _ at _ done e g = let z : at ≡ e = cc in (omega arith, λ k h. absurd (omega arith))
+  ends _ at _ (fails b) e g = absurd (bad-on g)
+  ends _ at r (goes_on {n = n} {next = next} b rest) e g =
+      let one : Positions s width at 1 (Ok next) = each at (Ok next) b in
+      let (q, others) = ends n next r rest e g in
+      let w : next ≡ at + 1 = one.ended next refl in
+      (omega (arith, q, w), below one others w)
+    where
+      below : Positions s width at 1 (Ok next) → Below s next n width → next ≡ at + 1 → Below s at (suc n) width
+      below one others w zero h = one.below next refl 0 (omega arith)
+      below one others w (suc k) h = let z : at + suc k ≡ next + k = omega arith in rw z (others k (omega arith))
+
+  pub positions-all : (n at : ℕ) (r : Walk) → Repeated reads n at r → Positions s width at n r
+  positions-all n at r w = record {
+    reads = λ Δ m. repeated-times (known Δ) s reads (λ p r b. sym (times-one (known Δ) p (drop p s)) ∙ (each p r b).reads Δ m) n at r w;
+    ended = λ e g. (ends n at r w e g).0;
+    below = λ e g. (ends n at r w e g).1;
+  }
+
+-- positions that were walked over are below the width as a part of the bytes too
+pub positions-part : {s : List ℕ} {width at count e : ℕ} → Positions s width at count (Ok e) → Below (take (e - at) (drop at s)) 0 (length (take (e - at) (drop at s))) width
+positions-part {s} {width} {at} {count} {e} p k h =
+    let few : k < e - at = omega (arith, h, length-take (e - at) (drop at s)) in
+    let z : 0 + k ≡ k = omega arith in
+    rw (z, ← (part_at s (take (e - at) (drop at s)) at (e - at) 0 refl k few)) (p.below e refl k (omega (arith, p.ended e refl)))
 
 -- ---- the entries that positions name
 
 -- what the walk read
-times-known : {A : Type 0} (l : List A) (n at : ℕ) (xs : List ℕ) (as' : List (ℕ × A)) (e : ℕ) (r : List ℕ) → times n (known l) at xs ≡ got as' e r
+pub times-known : {A : Type 0} (l : List A) (n at : ℕ) (xs : List ℕ) (as' : List (ℕ × A)) (e : ℕ) (r : List ℕ) → times n (known l) at xs ≡ got as' e r
     → (length as' ≡ n) × ((k : ℕ) → k < n → get_elem? l (get_or xs k 0) ≡ get_elem? (map (λ p. p.1) as') k)
 times-known l zero at xs as' e r q = let h : as' ≡ [] = cc in (rw h, λ k m. absurd (omega arith))
 times-known {A = A} l (suc n) at xs as' e r q =
@@ -77,8 +101,10 @@ abbrev pub named_by : List ℕ → List (List ℕ) → ℕ → ℕ → List ℕ
 named_by s env at k = get_or env (get_or s (at + k) 0) []
 
 -- the array filled holds the entries named, as f writes them
-pub gather-all : {A : Type 0} (f : A → List ℕ) (s : List ℕ) (env start : List (List ℕ)) (at i : ℕ) (out : List (List ℕ)) → Filled (named_by s env at) start 0 i out → (count : ℕ) → count ≤ i → i ≤ count
-    → (l : List A) (width : ℕ) → take width env ≡ map f l → Below s at count width → (as' : List (ℕ × A)) (e : ℕ) (r : List ℕ) → times count (known l) at (drop at s) ≡ got as' e r → take count out ≡ map f (map (λ p. p.1) as')
+pub gather-all : {A : Type 0} (f : A → List ℕ) (s : List ℕ) (env start : List (List ℕ)) (at i : ℕ) (out : List (List ℕ))
+    → Filled (named_by s env at) start 0 i out → (count : ℕ) → count ≤ i → i ≤ count
+    → (l : List A) (width : ℕ) → take width env ≡ map f l → Below s at count width → (as' : List (ℕ × A)) (e : ℕ) (r : List ℕ)
+    → times count (known l) at (drop at s) ≡ got as' e r → take count out ≡ map f (map (λ p. p.1) as')
 gather-all {A} f s env start at i out g count low high l width held b as' e r q =
     let w = times-known l count at (drop at s) as' e r q in
     let names : List A = map (λ p. p.1) as' in
@@ -86,34 +112,3 @@ gather-all {A} f s env start at i out g count low high l width held b as' e r q 
     let z : 0 + count ≡ count = omega arith in
     rw z at (fill-all (named_by s env at) start 0 i out g count low high (map f names) [] m λ k h.
     held_at f env width l held (get_or s (at + k) 0) (b k h) ∙ rw (← (get_or-drop at s k 0), w.1 k h) (sym (written_at f names k)))
-
--- ---- positions of the type ext
-
-module _ (s : List ℕ) (env : List (List ℕ)) (width at : ℕ) (full : width ≤ length env) where
-  -- the answer for whatever environment the array holds
-  abbrev pub Argument : Walk → Type 0
-  Argument r = (Δ : Environment) → Holds env width Δ → forget (argument Δ at (drop at s)) ≡ shown s r
-
-  pub argument-end : at ≡ length s → Argument (Bad 3 at)
-  unfolding after shown
-  argument-end e Δ held = rw (byte-end s at e)
-
-  module _ (more : at < length s) where
-    pub argument-far : width ≤ get_or s at 0 → Argument (Bad 7 at)
-    unfolding after the shown
-    argument-far h Δ held =
-        let l : length Δ ≡ width = held-length type_bytes env width Δ held full in
-        rw (byte_at s at more, at_none Δ (get_or s at 0) (omega arith))
-
-    module _ (near : get_or s at 0 < width) where
-      pub argument-other : (get_or (get_or env (get_or s at 0) []) 0 0 ≡ 2 → ⊥) → Argument (Bad 8 at)
-      unfolding after the need shown
-      argument-other h Δ held =
-          let (t, (e, b)) = held-entry type_bytes env width Δ held full (get_or s at 0) near in
-          rw (byte_at s at more, e, ext-other t (λ q. h (rw b q)))
-
-      pub argument-on : get_or (get_or env (get_or s at 0) []) 0 0 ≡ 2 → Argument (On (at + 1))
-      unfolding after the need shown
-      argument-on h Δ held =
-          let (t, (e, b)) = held-entry type_bytes env width Δ held full (get_or s at 0) near in
-          rw (byte_at s at more, e, ext_same t (rw b at h))

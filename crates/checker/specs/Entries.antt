@@ -1,10 +1,19 @@
--- What a walk over positions says.
-use Rattle.std.specs.Prelude.{ℕ, ◌+◌, ◌<◌, ◌≡◌, List, length, get_or, drop}
-use Rattle.definitions.specs.Terms.{Environment}
-use Rattle.definitions.specs.Reader.{times, known}
-use Rattle.checker.specs.declared.Walk.{Walk}
-use Rattle.checker.specs.declared.Walk.TheVariants.{On}
-use Rattle.checker.specs.Shown.{forget, shown}
+-- What environments hold, and what a walk over positions says.
+use Rattle.std.specs.Prelude.{ℕ, ◌+◌, ◌<◌, ◌≡◌, List, [], map, length, get_or, drop, Option, Some, None, Ok}
+use Rattle.definitions.specs.Terms.{Ty, Environment}
+use Rattle.definitions.specs.Reader.{got, times, known}
+use Rattle.checker.specs.declared.env.Env.{Env}
+use Rattle.checker.specs.Laid.{Holds}
+use Rattle.checker.specs.Shown.{forget, shown, Walk}
+
+-- An environment of the code holds these types.
+abbrev pub Held : Env → Environment → Type 0
+Held env Δ = Holds env.types env.width Δ
+
+-- Where there is one, it holds these types; where there is none, they are more than it could hold.
+abbrev pub HeldOr : Option Env → Environment → Type 0
+HeldOr (Some env) Δ = Held env Δ
+HeldOr None Δ = 32 < length Δ
 
 -- Every one of these bytes is below a bound.
 abbrev pub Below : List ℕ → ℕ → ℕ → ℕ → Type 0
@@ -13,5 +22,10 @@ Below s at count bound = (k : ℕ) → k < count → get_or s (at + k) 0 < bound
 -- The positions of an environment of this width; where all are known, where they end.
 pub record Positions (s : List ℕ) (width at count : ℕ) (r : Walk) : Type 0 where
   pub reads : (Δ : Environment) → length Δ ≡ width → forget (times count (known Δ) at (drop at s)) ≡ shown s r
-  pub ended : (e : ℕ) → r ≡ On e → e ≡ at + count
-  pub below : (e : ℕ) → r ≡ On e → Below s at count width
+  pub ended : (e : ℕ) → r ≡ Ok e → e ≡ at + count
+  pub below : (e : ℕ) → r ≡ Ok e → Below s at count width
+
+-- The entries that positions of an environment name.
+pub record NamedIs (env : Env) (positions : List ℕ) (r : Env) : Type 0 where
+  pub width : r.width ≡ length positions
+  pub holds : (Δ : Environment) → Held env Δ → (l : List (ℕ × Ty)) → times (length positions) (known Δ) 0 positions ≡ got l (length positions) [] → Held r (map (λ p. p.1) l)

@@ -1,7 +1,11 @@
+pub mod Faults
+pub mod Codes
 pub mod Shown
 pub mod Laid
 pub mod Entries
-pub mod Forms
+pub mod Readers
 pub mod Places
+pub mod Regions
+pub mod Forms
 pub mod Statements
 pub mod Bodies

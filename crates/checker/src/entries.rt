@@ -1,185 +1,144 @@
-// An environment: an array of types, two bytes each, and its width beside it.
-ghost use Rattle.std.specs.Prelude.{◌≡◌, ℕ, ◌+◌, ◌≤◌, ◌<◌, length, take, drop};
-ghost use mathlib.Core.List.{List, [], ◌∷◌, ◌++◌, map, flat_map};
-ghost use Rattle.definitions.specs.Terms.{Ty, Environment, Signature};
-ghost use Rattle.definitions.specs.Typing.{At};
+// What the check does with an environment: entries are taken, added, compared and named.
+ghost use Rattle.std.specs.Prelude.{◌≡◌, [], ◌∷◌, ◌++◌, ◌+◌, ◌-◌, ◌≤◌, ◌<◌, length, take, drop};
+ghost use mathlib.Core.List.{map, flat_map};
+ghost use Rattle.definitions.specs.Terms.{Ty, Environment};
 ghost use Rattle.definitions.specs.Layout.{type_bytes};
-ghost use Rattle.definitions.specs.Reader.{got, times, known};
-ghost use Rattle.definitions.specs.FirstFault.{same_types, argument};
+ghost use Rattle.definitions.specs.Reader.{times};
+ghost use Rattle.definitions.specs.FirstFault.{argument};
 ghost use Rattle.checker.specs.Shown.{forget, shown, Within};
-ghost use Rattle.checker.specs.Laid.{Holds, Laid, parameters_bytes, signature_bytes};
-ghost use Rattle.checker.specs.Entries.{Below, Positions};
+ghost use Rattle.checker.specs.Laid.{Holds};
+ghost use Rattle.checker.specs.Entries.{HeldOr, Below, NamedIs, Positions};
 
-use crate::Walk;
+use crate::env::Env;
+use crate::faults::{Fault, Refusal};
+use crate::readers::{name, repeat};
 use crate::types::Type;
 
-// The n types whose bytes stand at `at`, behind the first entries.
-pub(crate) fn put_types(
-    env: [[u8; 2]; 32],
-    width: usize,
-    s: &[u8],
-    at: usize,
-    n: usize,
-) -> [[u8; 2]; 32]
-    requires { (width + n ≤ 32) × (at + (n + n) ≤ length s.now) }
-    ensures { (Δ Γ : Environment) → Holds env width Δ → take (n + n) (drop at s.now) ≡ flat_map type_bytes Γ → length Γ ≡ n → Holds result (width + n) (Δ ++ Γ) }
-{
-    let mut out = env;
-    let mut i: usize = 0;
-    while i < n {
-        let q = at + (i + i);
-        out[width + i] = [s[q], s[q + 1]];
-        i += 1;
-    }
-    out
-}
-
-// The n entries of another array from `from` on, behind the first entries.
-pub(crate) fn put_entries(
-    out: [[u8; 2]; 32],
-    width: usize,
-    env: [[u8; 2]; 32],
-    from: usize,
-    n: usize,
-) -> [[u8; 2]; 32]
-    requires { (width + n ≤ 32) × (from + n ≤ 32) }
-    ensures { take (width + n) result ≡ take width out ++ take n (drop from env) }
-{
-    let mut to = out;
-    let mut i: usize = 0;
-    while i < n {
-        let e = env[from + i];
-        to[width + i] = e;
-        i += 1;
-    }
-    to
-}
-
-// One more entry.
-pub(crate) fn push(env: [[u8; 2]; 32], width: usize, entry: Type) -> [[u8; 2]; 32]
-    requires { width < 32 }
-    ensures entries { take (width + 1) result ≡ take width env ++ ((entry.kind ∷ entry.number ∷ []) ∷ []) }
-    ensures holds { (Δ : Environment) (t : Ty) → Holds env width Δ → type_bytes t ≡ entry.kind ∷ entry.number ∷ [] → Holds result (width + 1) (Δ ++ (t ∷ [])) }
-{
-    let mut out = env;
-    out[width] = [entry.kind, entry.number];
-    out
-}
-
-// Whether the n entries from `from` on are the types whose bytes stand at `at`.
-pub(crate) fn same_types(s: &[u8], env: [[u8; 2]; 32], from: usize, at: usize, n: usize) -> bool
-    requires { (from + n ≤ 32) × (at + (n + n) ≤ length s.now) }
-    ensures { (Δ Γ : Environment) → length Δ ≡ n → length Γ ≡ n → take n (drop from env) ≡ map type_bytes Δ → take (n + n) (drop at s.now) ≡ flat_map type_bytes Γ → result ≡ same_types Δ Γ }
-{
-    let mut i: usize = 0;
-    while i < n {
-        let e = env[from + i];
-        let q = at + (i + i);
-        if e[0] != s[q] {
-            return false;
+impl Env {
+    // No entries.
+    pub(crate) fn empty() -> Env
+        ensures { result.width ≡ 0 }
+    {
+        Env {
+            types: [[0u8; 2]; 32],
+            width: 0,
         }
-        if e[1] != s[q + 1] {
-            return false;
-        }
-        i += 1;
     }
-    true
+
+    // The entries.
+    pub(crate) fn entries(&self) -> &[[u8; 2]]
+        ensures { result.now ≡ take self.now.width self.now.types }
+    {
+        &self.types[..self.width]
+    }
+
+    // The first entries alone.
+    pub(crate) fn first(&self, kept: usize) -> Env
+        requires { kept ≤ self.now.width }
+        ensures types { result.types ≡ self.now.types }
+        ensures width { result.width ≡ kept }
+    {
+        Env {
+            types: self.types,
+            width: kept,
+        }
+    }
+
+    // One more entry, where there is a place for it.
+    pub(crate) fn push(&self, entry: Type) -> Option<Env>
+        ensures { (Δ : Environment) (t : Ty) → Holds self.now.types self.now.width Δ → type_bytes t ≡ entry.kind ∷ entry.number ∷ [] → HeldOr result (Δ ++ (t ∷ [])) }
+    {
+        if self.width == 32 {
+            return None;
+        }
+        let mut types = self.types;
+        // an entry is its two bytes: nothing is copied here that a library call would copy
+        types[self.width] = [entry.kind, entry.number];
+        Some(Env {
+            types,
+            width: self.width + 1,
+        })
+    }
+
+    // The entries and behind them these, where there are places for them.
+    pub(crate) fn with_entries(&self, entries: &[[u8; 2]]) -> Option<Env>
+        ensures { (Δ Γ : Environment) → Holds self.now.types self.now.width Δ → entries.now ≡ map type_bytes Γ → HeldOr result (Δ ++ Γ) }
+    {
+        let width = self.width;
+        if 32 - width < entries.len() {
+            return None;
+        }
+        let mut types = self.types;
+        types[width..width + entries.len()].copy_from_slice(entries);
+        Some(Env {
+            types,
+            width: width + entries.len(),
+        })
+    }
+
+    // The entries and behind them the types with these bytes, where there are places for them.
+    pub(crate) fn with_types(&self, bytes: &[u8]) -> Option<Env>
+        ensures { (Δ Γ : Environment) → Holds self.now.types self.now.width Δ → bytes.now ≡ flat_map type_bytes Γ → HeldOr result (Δ ++ Γ) }
+    {
+        let (entries, _) = bytes.as_chunks();
+        self.with_entries(entries)
+    }
+
+    // The entries that these positions name, in that order.
+    // The run has its own, `entries::gather`: see `places::skip_lists`.
+    pub(crate) fn named(&self, positions: &[u8]) -> Env
+        requires few { length positions.now ≤ 32 }
+        requires known { Below positions.now 0 (length positions.now) self.now.width }
+        ensures { NamedIs self.now positions.now result }
+    {
+        let mut types = [[0u8; 2]; 32];
+        for (i, position) in positions.iter().enumerate() {
+            types[i] = self.types[*position as usize];
+        }
+        Env {
+            types,
+            width: positions.len(),
+        }
+    }
 }
 
-// `count` positions from `at` on, each below `width`.
-pub(crate) fn positions(s: &[u8], width: usize, at: usize, count: usize) -> Walk
+// `count` positions from `at` on, each below `width`; of the environment nothing else is needed.
+pub(crate) fn positions(s: &[u8], width: usize, at: usize, count: usize) -> Result<usize, Fault>
     requires { at ≤ length s.now }
     ensures within { Within at s.now result }
     ensures positions { Positions s.now width at count result }
 {
-    let mut p = at;
-    let mut left = count;
-    while left != 0 {
-        if p == s.len() {
-            return Walk::Bad(3, p);
-        }
-        let position = s[p] as usize;
-        if width <= position {
-            return Walk::Bad(7, p);
-        }
-        p += 1;
-        left -= 1;
-    }
-    Walk::On(p)
+    repeat(s, at, count, |p| position(s, width, p))
 }
 
-// The entries that the `count` positions from `at` on name, in that order.
-pub(crate) fn gather(s: &[u8], env: [[u8; 2]; 32], at: usize, count: usize) -> [[u8; 2]; 32]
-    requires { (count ≤ 32) × ((at + count ≤ length s.now) × Below s.now at count 32) }
-    ensures { (Δ : Environment) (width : ℕ) → Holds env width Δ → Below s.now at count width → (l : List (ℕ × Ty)) → times count (known Δ) at (drop at s.now) ≡ got l (at + count) (drop (at + count) s.now) → Holds result count (map (λ p. p.1) l) }
+// The position at `at`.
+fn position(s: &[u8], width: usize, at: usize) -> Result<usize, Fault>
+    requires { at ≤ length s.now }
+    ensures within { Within at s.now result }
+    ensures positions { Positions s.now width at 1 result }
 {
-    let mut out = [[0u8; 2]; 32];
-    let mut i: usize = 0;
-    while i < count {
-        let position = s[at + i] as usize;
-        let e = env[position];
-        out[i] = e;
-        i += 1;
-    }
-    out
+    name(s, width, at)?;
+    Ok(at + 1)
 }
 
 // The position at `at`, of an entry of the type ext.
-pub(crate) fn ext_at(s: &[u8], env: [[u8; 2]; 32], width: usize, at: usize) -> Walk
-    requires { (at ≤ length s.now) × (width ≤ 32) }
+pub(crate) fn ext_at(s: &[u8], env: &Env, at: usize) -> Result<usize, Fault>
+    requires { at ≤ length s.now }
     ensures within { Within at s.now result }
-    ensures s_value { (Δ : Environment) → Holds env width Δ → forget (argument Δ at (drop at s.now)) ≡ shown s.now result }
+    ensures reads { (Δ : Environment) → Holds env.now.types env.now.width Δ → forget (argument Δ at (drop at s.now)) ≡ shown s.now result }
 {
-    if at == s.len() {
-        return Walk::Bad(3, at);
+    let position = name(s, env.width, at)?;
+    if env.types[position][0] != Type::EXT {
+        return Err(Refusal::Untyped.at(at));
     }
-    let position = s[at] as usize;
-    if width <= position {
-        return Walk::Bad(7, at);
-    }
-    let e = env[position];
-    if e[0] != Type::EXT {
-        return Walk::Bad(8, at);
-    }
-    Walk::On(at + 1)
+    Ok(at + 1)
 }
 
 // `n` positions from `at` on, each of an entry of the type ext.
-pub(crate) fn arguments(s: &[u8], env: [[u8; 2]; 32], width: usize, at: usize, n: usize) -> Walk
-    requires { (at ≤ length s.now) × (width ≤ 32) }
+pub(crate) fn arguments(s: &[u8], env: &Env, at: usize, n: usize) -> Result<usize, Fault>
+    requires { at ≤ length s.now }
     ensures within { Within at s.now result }
-    ensures s_value { (Δ : Environment) → Holds env width Δ → forget (times n (argument Δ) at (drop at s.now)) ≡ shown s.now result }
+    ensures reads { (Δ : Environment) → Holds env.now.types env.now.width Δ → forget (times n (argument Δ) at (drop at s.now)) ≡ shown s.now result }
 {
-    let mut p = at;
-    let mut left = n;
-    while left != 0 {
-        match ext_at(s, env, width, p) {
-            Walk::On(next) => {
-                p = next;
-            }
-            Walk::Bad(k, o) => {
-                return Walk::Bad(k, o);
-            }
-        }
-        left -= 1;
-    }
-    Walk::On(p)
-}
-
-// Where the parameter count of symbol `m` stands, of the signature whose symbol count stands at `at`.
-pub(crate) fn symbol_at(s: &[u8], at: usize, m: usize) -> usize
-    requires { (length s.now ≤ 16384) × (at ≤ length s.now) }
-    ensures within { (at < result) × (result ≤ length s.now + 511) }
-    ensures laid { (S : Signature) (Γ : Environment) → Laid s.now at (signature_bytes S) → At S m Γ → Laid s.now result (parameters_bytes Γ) }
-{
-    let mut p = at + 1;
-    let mut left = m;
-    while left != 0 {
-        if p < s.len() {
-            let k = s[p] as usize;
-            p += 1 + (k + k);
-        }
-        left -= 1;
-    }
-    p
+    repeat(s, at, n, |p| ext_at(s, env, p))
 }

@@ -1,283 +1,106 @@
-// The tests of each form of statement that stand before its clauses or its remainder.
-ghost use Rattle.std.specs.Prelude.{◌≡◌, true, ◌+◌, ◌-◌, ◌≤◌, ◌<◌, length, get_or, drop};
-ghost use Rattle.definitions.specs.Terms.{Environment};
-ghost use Rattle.definitions.specs.FirstFault.{same_types};
-ghost use Rattle.definitions.specs.Ends.{back};
-ghost use Rattle.definitions.specs.Reader.{expected};
-ghost use Rattle.checker.specs.Laid.{Laid, Holds, Known, ParametersAt, parameters_bytes, signature_bytes};
-ghost use Rattle.checker.specs.Shown.{forget, shown, Within, Next};
-ghost use Rattle.checker.specs.Forms.{NameIs, JumpIs, InvokeIs, LetIs, NewIs, SwitchIs, SubstituteIs, OperationIs, LastIs};
+// The forms of statements, up to their clauses or their remainder.
+ghost use Rattle.std.specs.Prelude.{◌+◌, ◌<◌, length};
+ghost use Rattle.definitions.specs.FirstFault.{a_jump, a_substitute, a_let, an_invoke};
+ghost use Rattle.checker.specs.Shown.{Within};
+ghost use Rattle.checker.specs.Forms.{EndsIs, GoesIs, NewIs, SwitchIs};
 
-use crate::entries::{positions, same_types, symbol_at};
+use crate::entries::positions;
+use crate::env::Env;
+use crate::faults::{Fault, Refusal};
+use crate::places::symbol_at;
+use crate::readers::{byte, count, expect_byte, name, parameters};
+use crate::region::Region;
 use crate::types::Type;
-use crate::{Cases, Name, Step, Takes, Walk};
-
-// The byte at `at`, which names one of `many` things: 3, then 7.
-pub(crate) fn name(s: &[u8], many: usize, at: usize) -> Name
-    requires { at ≤ length s.now }
-    ensures { NameIs s.now many at result }
-{
-    if at == s.len() {
-        return Name::Not(3, at);
-    }
-    let i = s[at] as usize;
-    if many <= i {
-        return Name::Not(7, at);
-    }
-    Name::Is(i)
-}
-
-// The byte at `at`, which must be `wanted`: 3, then 9.
-pub(crate) fn expect_byte(s: &[u8], wanted: usize, at: usize) -> Walk
-    requires { at ≤ length s.now }
-    ensures next { Next at s.now result }
-    ensures s_value { forget (expected wanted at (drop at s.now)) ≡ shown s.now result }
-{
-    if at == s.len() {
-        return Walk::Bad(3, at);
-    }
-    if s[at] as usize != wanted {
-        return Walk::Bad(9, at);
-    }
-    Walk::On(at + 1)
-}
-
-// Whether the environment is the list of types that stands at `list`.
-pub(crate) fn equals(image: &[u8], env: [[u8; 2]; 32], width: usize, list: usize) -> bool
-    requires { (width ≤ 32) × ParametersAt image.now list }
-    ensures { (Δ Γ : Environment) → Holds env width Δ → Laid image.now list (parameters_bytes Γ) → result ≡ same_types Δ Γ }
-{
-    let n = image[list] as usize;
-    if n != width {
-        return false;
-    }
-    same_types(image, env, 0, list + 1, n)
-}
-
-// Whether the last entries of the environment are the list of types that stands at `list`.
-pub(crate) fn ends_with(image: &[u8], env: [[u8; 2]; 32], width: usize, list: usize) -> bool
-    requires { (width ≤ 32) × ParametersAt image.now list }
-    ensures value { (Δ Γ : Environment) → Holds env width Δ → Laid image.now list (parameters_bytes Γ) → result ≡ same_types (back Δ (length Γ)) Γ }
-    ensures few { result ≡ true → get_or image.now list 0 ≤ width }
-{
-    let n = image[list] as usize;
-    if width < n {
-        return false;
-    }
-    same_types(image, env, width - n, list + 1, n)
-}
 
 // jump, of which the code stands at `at`.
-pub(crate) fn jump(
-    image: &[u8],
-    labels: &[usize],
-    s: &[u8],
-    env: [[u8; 2]; 32],
-    width: usize,
-    at: usize,
-) -> Walk
-    requires { (at < length s.now) × ((width ≤ 32) × Known parameters_bytes image.now labels.now) }
-    ensures within { Within at s.now result }
-    ensures jump_is { JumpIs image.now labels.now s.now env width at result }
+pub(crate) fn jump(region: &Region<'_>, env: &Env, at: usize) -> Result<usize, Fault>
+    requires { at < length region.now.bytes.now }
+    ensures within { Within at region.now.bytes.now result }
+    ensures reads { EndsIs a_jump region.now env.now at result }
 {
-    match name(s, labels.len(), at + 1) {
-        Name::Is(l) => {
-            if equals(image, env, width, labels[l]) {
-                return Walk::On(at + 1 + 1);
-            }
-            Walk::Bad(8, at)
-        }
-        Name::Not(n, o) => Walk::Bad(n, o),
+    let label = name(region.bytes, region.labels.len(), at + 1)?;
+    let wanted = parameters(region.image, region.labels[label]);
+    if env.entries().as_flattened() != wanted {
+        return Err(Refusal::Untyped.at(at));
     }
+    Ok(at + 2)
 }
 
-// let, up to its remainder: where that stands, and how many entries its environment has.
-pub(crate) fn let_head(
-    image: &[u8],
-    sigs: &[usize],
-    s: &[u8],
-    env: [[u8; 2]; 32],
-    width: usize,
-    at: usize,
-) -> Step
-    requires { (at < length s.now) × ((width ≤ 32) × ((length image.now ≤ 16384) × Known signature_bytes image.now sigs.now)) }
-    ensures { LetIs image.now sigs.now s.now env width at result }
+// substitute, of which the code stands at `at`: where its remainder stands, and the environment of that.
+pub(crate) fn substitute(region: &Region<'_>, env: &Env, at: usize) -> Result<(usize, Env), Fault>
+    requires { at < length region.now.bytes.now }
+    ensures { GoesIs a_substitute region.now env.now at result }
 {
-    match name(s, sigs.len(), at + 1) {
-        Name::Is(t) => {
-            let sig = sigs[t];
-            match name(s, image[sig] as usize, at + 1 + 1) {
-                Name::Is(m) => {
-                    let list = symbol_at(image, sig, m);
-                    if !ends_with(image, env, width, list) {
-                        return Step::Fails(8, at);
-                    }
-                    let kept = width - image[list] as usize;
-                    if kept == 32 {
-                        return Step::Fails(5, at);
-                    }
-                    Step::To(at + 1 + 1 + 1, kept + 1)
-                }
-                Name::Not(n, o) => Step::Fails(n, o),
-            }
-        }
-        Name::Not(n, o) => Step::Fails(n, o),
-    }
+    let named = count(region.bytes, at + 1, 0, 32)?;
+    let on = positions(region.bytes, env.width, at + 2, named)?;
+    Ok((on, env.named(&region.bytes[at + 2..on])))
 }
 
-// new, up to its clauses: the offset of its signature, and how many entries it captures.
-pub(crate) fn new_head(image: &[u8], sigs: &[usize], s: &[u8], width: usize, at: usize) -> Cases
-    requires { (at < length s.now) × Known signature_bytes image.now sigs.now }
-    ensures { NewIs image.now sigs.now s.now width at result }
+// let, of which the code stands at `at`: where its remainder stands, and the environment of that.
+pub(crate) fn let_(region: &Region<'_>, env: &Env, at: usize) -> Result<(usize, Env), Fault>
+    requires { at < length region.now.bytes.now }
+    ensures { GoesIs a_let region.now env.now at result }
 {
-    match name(s, sigs.len(), at + 1) {
-        Name::Is(t) => {
-            let sig = sigs[t];
-            let place = at + 1 + 1;
-            if place == s.len() {
-                return Cases::Wrong(3, place);
-            }
-            let captures = s[place] as usize;
-            if width < captures {
-                return Cases::Wrong(8, place);
-            }
-            match expect_byte(s, image[sig] as usize, place + 1) {
-                Walk::On(next) => Cases::Of(sig, captures),
-                Walk::Bad(n, o) => Cases::Wrong(n, o),
-            }
-        }
-        Name::Not(n, o) => Cases::Wrong(n, o),
+    let t = name(region.bytes, region.sigs.len(), at + 1)?;
+    let sig = region.sigs[t];
+    let m = name(region.bytes, region.image[sig] as usize, at + 2)?;
+    let fields = parameters(region.image, symbol_at(region.image, sig, m));
+    if !env.entries().as_flattened().ends_with(fields) {
+        return Err(Refusal::Untyped.at(at));
     }
+    let kept = env.first(env.width - fields.len() / 2);
+    let next = kept
+        .push(Type::prd(region.bytes[at + 1]))
+        .ok_or(Refusal::Wide.at(at))?;
+    Ok((at + 3, next))
 }
 
-// Whether the last entry has this kind and this number.
-pub(crate) fn last_is(env: [[u8; 2]; 32], width: usize, kind: u8, number: u8) -> bool
-    requires { width ≤ 32 }
-    ensures { LastIs env width kind number result }
+// new, up to its clauses: where its signature stands, and how many entries it captures.
+pub(crate) fn new_head(region: &Region<'_>, env: &Env, at: usize) -> Result<(usize, usize), Fault>
+    requires { at < length region.now.bytes.now }
+    ensures { NewIs region.now env.now at result }
 {
-    if width == 0 {
-        return false;
+    let t = name(region.bytes, region.sigs.len(), at + 1)?;
+    let sig = region.sigs[t];
+    let captures = byte(region.bytes, at + 2)? as usize;
+    if env.width < captures {
+        return Err(Refusal::Untyped.at(at + 2));
     }
-    let last = env[width - 1];
-    if last[0] != kind {
-        return false;
-    }
-    last[1] == number
+    expect_byte(region.bytes, region.image[sig], at + 3)?;
+    Ok((sig, captures))
 }
 
-// switch, up to its clauses: the offset of its signature.
-pub(crate) fn switch_head(
-    image: &[u8],
-    sigs: &[usize],
-    s: &[u8],
-    env: [[u8; 2]; 32],
-    width: usize,
-    at: usize,
-) -> Name
-    requires { (at < length s.now) × ((width ≤ 32) × Known signature_bytes image.now sigs.now) }
-    ensures { SwitchIs image.now sigs.now s.now env width at result }
+// switch, up to its clauses: where its signature stands.
+pub(crate) fn switch_head(region: &Region<'_>, env: &Env, at: usize) -> Result<usize, Fault>
+    requires { at < length region.now.bytes.now }
+    ensures { SwitchIs region.now env.now at result }
 {
-    match name(s, sigs.len(), at + 1) {
-        Name::Is(t) => {
-            if !last_is(env, width, Type::PRD, s[at + 1]) {
-                return Name::Not(8, at);
-            }
-            let sig = sigs[t];
-            match expect_byte(s, image[sig] as usize, at + 1 + 1) {
-                Walk::On(next) => Name::Is(sig),
-                Walk::Bad(n, o) => Name::Not(n, o),
-            }
-        }
-        Name::Not(n, o) => Name::Not(n, o),
+    let t = name(region.bytes, region.sigs.len(), at + 1)?;
+    if env.entries().last() != Some(&[Type::PRD, region.bytes[at + 1]]) {
+        return Err(Refusal::Untyped.at(at));
     }
-}
-
-// substitute, up to its remainder: where that stands, and how many positions there are, each an entry of its environment.
-pub(crate) fn substitute_head(s: &[u8], width: usize, at: usize) -> Step
-    requires { at < length s.now }
-    ensures { SubstituteIs s.now width at result }
-{
-    let place = at + 1;
-    if place == s.len() {
-        return Step::Fails(3, place);
-    }
-    let count = s[place] as usize;
-    if 32 < count {
-        return Step::Fails(4, place);
-    }
-    match positions(s, width, place + 1, count) {
-        Walk::On(on) => Step::To(on, count),
-        Walk::Bad(n, o) => Step::Fails(n, o),
-    }
-}
-
-// The operation at `at`, with its literal: where its arguments stand, how many they are, how many clauses it has, and how many integers each gains.
-pub(crate) fn operation(s: &[u8], at: usize) -> Takes
-    requires { at ≤ length s.now }
-    ensures { OperationIs s.now at result }
-{
-    if at == s.len() {
-        return Takes::Unknown(3, at);
-    }
-    let code = s[at];
-    let next = at + 1;
-    match code {
-        0 => {
-            if s.len() - next < 8 {
-                return Takes::Unknown(3, next);
-            }
-            Takes::Known(next + 8, 0, 1, 1)
-        }
-        1 => Takes::Known(next, 2, 1, 1),
-        2 => Takes::Known(next, 2, 1, 1),
-        3 => Takes::Known(next, 2, 1, 1),
-        4 => Takes::Known(next, 1, 2, 0),
-        5 => Takes::Known(next, 2, 2, 0),
-        6 => Takes::Known(next, 1, 0, 0),
-        _ => Takes::Unknown(6, at),
-    }
-}
-
-// A byte as a number.
-fn wide(x: u8) -> usize
-    ensures { result ≡ x }
-{
-    x as usize
+    let sig = region.sigs[t];
+    expect_byte(region.bytes, region.image[sig], at + 2)?;
+    Ok(sig)
 }
 
 // invoke, of which the code stands at `at`.
-pub(crate) fn invoke(
-    image: &[u8],
-    sigs: &[usize],
-    s: &[u8],
-    env: [[u8; 2]; 32],
-    width: usize,
-    at: usize,
-) -> Walk
-    requires { (at < length s.now) × ((width ≤ 32) × ((length image.now ≤ 16384) × Known signature_bytes image.now sigs.now)) }
-    ensures within { Within at s.now result }
-    ensures invoke_is { InvokeIs image.now sigs.now s.now env width at result }
+pub(crate) fn invoke(region: &Region<'_>, env: &Env, at: usize) -> Result<usize, Fault>
+    requires { at < length region.now.bytes.now }
+    ensures within { Within at region.now.bytes.now result }
+    ensures reads { EndsIs an_invoke region.now env.now at result }
 {
-    if width == 0 {
-        return Walk::Bad(8, at);
-    }
-    let last = env[width - 1];
+    let untyped = Refusal::Untyped.at(at);
+    let (last, others) = env.entries().split_last().ok_or(untyped)?;
+    // the kind alone: its signature is looked up next
     if last[0] != Type::CNS {
-        return Walk::Bad(8, at);
+        return Err(untyped);
     }
-    let t = wide(last[1]);
-    if sigs.len() <= t {
-        return Walk::Bad(8, at);
+    let sig = *region.sigs.get(last[1] as usize).ok_or(untyped)?;
+    let m = name(region.bytes, region.image[sig] as usize, at + 1)?;
+    let wanted = parameters(region.image, symbol_at(region.image, sig, m));
+    if others.as_flattened() != wanted {
+        return Err(untyped);
     }
-    let sig = sigs[t];
-    match name(s, image[sig] as usize, at + 1) {
-        Name::Is(m) => {
-            let list = symbol_at(image, sig, m);
-            if equals(image, env, width - 1, list) {
-                return Walk::On(at + 1 + 1);
-            }
-            Walk::Bad(8, at)
-        }
-        Name::Not(n, o) => Walk::Bad(n, o),
-    }
+    Ok(at + 2)
 }

@@ -3,7 +3,8 @@ ghost use Rattle.std.specs.Prelude.{◌≡◌, [], ◌∷◌};
 ghost use Rattle.definitions.specs.Terms.{prd, cns, ext};
 ghost use Rattle.definitions.specs.Layout.{type_bytes};
 
-#[derive(Drop)]
+// Constants and makers, not an enum: document 01, "Forms to follow", asks for them.
+#[derive(Clone, Copy, Debug, PartialEq, Eq)]
 pub(crate) struct Type {
     pub kind: u8,
     pub number: u8,

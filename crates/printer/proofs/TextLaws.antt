@@ -3,10 +3,10 @@ use Prim.Native.Nat.{ℕ, zero, suc, ◌+◌, ◌-◌, ◌*◌, ◌/◌, ◌%◌
 use mathlib.Core.Path.{◌≡◌, refl, ap, sym, ◌∙◌}
 use mathlib.Core.List.{List, [], ◌∷◌, ◌++◌, append_assoc}
 use native.Mathlib.Nat.{pow-suc, pow-le-pow_right}
-use native.Mathlib.Numerals.{add-one}
 use native.Mathlib.Omega.{arith}
-use lib.ListN.{length, get_or, take, drop, set, replicate, length-append, length-replicate}
-use lib.Seq.{paste, paste-suc, take_at, set_at, length-take-le}
+use lib.ListN.{length, take, drop, set, replicate, length-append, length-replicate}
+use borrow.Rule.Slice.PartMut.{put_mid}
+use lib.Seq.{drop-drop, take_all, paste, take_at, set_at, length-take-le}
 use mathlib.Core.Bool.{Bool, true, false}
 use lib.Dec.{leb}
 use borrow.Author.Tests.{lt-ltb, le-ltb, leb-true, leb-false}
@@ -16,7 +16,7 @@ use Rattle.definitions.specs.FirstFault.{first_fault}
 use Rattle.definitions.specs.Answer.{answer, digits, printed}
 use Rattle.runner.specs.declared.Answer.{Answer as Ran}
 use Rattle.runner.specs.Shown.{shown}
-use Rattle.printer.specs.declared.Text.{Text}
+use Rattle.printer.specs.declared.text.Text.{Text}
 use Rattle.printer.specs.Texts.{Holds}
 
 -- ---- decimal
@@ -97,9 +97,15 @@ short n k h large = go (leb k 20) refl
 pub all-bytes : {t : Text} {xs : List ℕ} → Holds t xs → length t.bytes ≡ 128
 all-bytes {t} {xs} h = rw (h.bytes-are, length-append xs (replicate (128 - length xs) 0), length-replicate {A = ℕ} (128 - length xs) 0) (omega (arith, h.fits))
 
+-- Bytes and a length, of which a text with both holds these bytes.
+pub record Figured (bytes : List ℕ) (m : ℕ) (ys : List ℕ) : Type 0 where
+  pub fits : length ys ≤ 128
+  pub length-is : m ≡ length ys
+  pub bytes-are : bytes ≡ ys ++ replicate (128 - length ys) 0
+
 -- a text with 21 bytes of room has room for a number and the byte behind it
 pub with_number : (t : Text) (xs : List ℕ) → Holds t xs → length xs + 21 ≤ 128 → (n b k : ℕ) (figures : List ℕ) → k ≤ length figures → k ≤ 20 → take k figures ≡ digits (suc n) n
-    → Holds (record { bytes = set (paste t.bytes t.length figures k) (t.length + k) b; length = t.length + k + 1 }) (xs ++ (digits (suc n) n ++ (b ∷ [])))
+    → Figured (set (paste t.bytes t.length figures k) (t.length + k) b) (t.length + k + 1) (xs ++ (digits (suc n) n ++ (b ∷ [])))
 with_number t xs h f n b k figures c s e =
     let d : length (digits (suc n) n) ≡ k = ap length (sym e) ∙ length-take-le k figures c in
     let m : length (xs ++ (digits (suc n) n ++ (b ∷ []))) ≡ length xs + (k + 1) = rw (length-append xs (digits (suc n) n ++ (b ∷ [])), length-append (digits (suc n) n) (b ∷ []), d) in
@@ -123,19 +129,32 @@ module _ {n k : ℕ} (fewest : Io.IsDigitCount 10 1 n k) (fits : n < 2 ^ 64) whe
 pub no_room : {t : Text} {G : Type 0} (xs : List ℕ) → 107 < t.length → Holds t xs → length xs + 21 ≤ 128 → G
 no_room xs l h f = absurd (omega (arith, h.length-is))
 
--- one figure more
-pub copied : (start figures : List ℕ) (at : ℕ) {bytes : List ℕ} {i k : ℕ} → at ≤ 107 → k ≤ 20 → k ≤ length figures → i < k → (length start ≡ 128 → bytes ≡ paste start at figures i)
-    → length start ≡ 128 → set bytes (at + i) (get_or figures i 0) ≡ paste start at figures (i + 1)
-copied start figures at {bytes} {i} {k} h s c l e full = rw (e full, add-one i) (paste-suc start at figures i 0 (omega arith) (omega arith))
+-- a copy into a part is a copy behind what stands before it
+pasted : (at m k : ℕ) → m ≡ k → (bytes part figures : List ℕ) → part ≡ take k figures → put_mid at m bytes part ≡ paste bytes at figures k
+pasted at m k z bytes part figures p = rw (z, p, drop-drop k at bytes) (sym (append_assoc (take at bytes) (take k figures) (drop (at + k) bytes)))
 
--- what the loop that copies the figures leaves
-pub numbered : (t : Text) (figures : List ℕ) (b : ℕ) {bytes : List ℕ} {n k i : ℕ} (xs : List ℕ) → Holds t xs → length xs + 21 ≤ 128 → Io.IsDigitCount 10 1 n k → n < 2 ^ 64 → k ≤ length figures → take k figures ≡ Io.last_digits 10 k n → i ≤ k → k ≤ i → (length t.bytes ≡ 128 → bytes ≡ paste t.bytes t.length figures i)
-    → Holds (record { bytes = set bytes (t.length + k) b; length = t.length + k + 1 }) (xs ++ (digits (suc n) n ++ (b ∷ [])))
-numbered t figures b {bytes} {n} {k} {i} xs h f fewest fits c e low high w =
-    let z : i ≡ k = omega arith in
-    rw (w (all-bytes h), z) (with_number t xs h f n b k figures c (few fewest fits) (figures-are fewest fits figures e))
+-- what is left where the figures are copied behind the bytes
+pub numbered : (t : Text) (figures part : List ℕ) (b : ℕ) {n k : ℕ} (xs : List ℕ) → Holds t xs → length xs + 21 ≤ 128 → Io.IsDigitCount 10 1 n k → n < 2 ^ 64 → k ≤ length figures
+    → take k figures ≡ Io.last_digits 10 k n
+    → part ≡ take k figures → (r : Text) → r.bytes ≡ set (put_mid t.length (t.length + k - t.length) t.bytes part) (t.length + k) b → r.length ≡ t.length + k + 1
+    → Holds r (xs ++ (digits (suc n) n ++ (b ∷ [])))
+numbered t figures part b {n} {k} xs h f fewest fits c e p r w l =
+    let z : t.length + k - t.length ≡ k = omega arith in
+    let a : r.bytes ≡ set (paste t.bytes t.length figures k) (t.length + k) b = w ∙ ap (λ l. set l (t.length + k) b) (pasted t.length (t.length + k - t.length) k z t.bytes part figures p) in
+    moved a l (with_number t xs h f n b k figures c (few fewest fits) (figures-are fewest fits figures e))
+  where
+    moved : {r : Text} {bytes : List ℕ} {m : ℕ} {ys : List ℕ} → r.bytes ≡ bytes → r.length ≡ m → Figured bytes m ys → Holds r ys
+    moved a l g = record { fits = g.fits; length-is = l ∙ g.length-is; bytes-are = a ∙ g.bytes-are }
 
 -- ---- the two lines
+
+-- as many bytes as there are, but no more than the program reads
+pub first : (input : List ℕ) (n : ℕ) → (length input ≤ 16385 → n ≡ length input) → (16385 ≤ length input → n ≡ 16385) → take n input ≡ take 16385 input
+first input n short long = go (leb (length input) 16385) refl
+  where
+    go : (b : Bool) → leb (length input) 16385 ≡ b → take n input ≡ take 16385 input
+    go true e = let l : length input ≤ 16385 = leb-true (length input) 16385 e in rw (short l) (take_all (length input) input (omega arith) ∙ sym (take_all 16385 input l))
+    go false e = rw (long (omega (arith, leb-false (length input) 16385 e)))
 
 -- A text that holds these bytes, at most so many.
 pub record Grown (t : Text) (most : ℕ) (xs : List ℕ) : Type 0 where
@@ -149,14 +168,16 @@ begun h = record { holds = h; few = omega (arith, h.length-is) }
 room : {t : Text} {m : ℕ} {xs : List ℕ} → Grown t m xs → m + 21 ≤ 128 → length xs + 21 ≤ 128
 room g l = omega (arith, g.few, g.holds.length-is)
 
-pub next : {t r : Text} {m : ℕ} {xs : List ℕ} (n b : ℕ) → Grown t m xs → m + 21 ≤ 128 → (r.length ≤ t.length + 21) × ((ys : List ℕ) → Holds t ys → length ys + 21 ≤ 128 → Holds r (ys ++ (digits (suc n) n ++ (b ∷ [])))) → Grown r (m + 21) (xs ++ (digits (suc n) n ++ (b ∷ [])))
+pub next : {t r : Text} {m : ℕ} {xs : List ℕ} (n b : ℕ) → Grown t m xs → m + 21 ≤ 128 → (r.length ≤ t.length + 21)
+    × ((ys : List ℕ) → Holds t ys → length ys + 21 ≤ 128 → Holds r (ys ++ (digits (suc n) n ++ (b ∷ [])))) → Grown r (m + 21) (xs ++ (digits (suc n) n ++ (b ∷ [])))
 next {xs = xs} n b g l p = record { holds = p.1 xs g.holds (room g l); few = omega (arith, g.few, p.0) }
 
 -- bytes that were added at the end, one after another, as two lines
 inwards : (xs a ys : List ℕ) (x : ℕ) → xs ++ (a ++ (x ∷ [])) ++ ys ≡ xs ++ (a ++ (x ∷ ys))
 inwards xs a ys x = append_assoc xs (a ++ (x ∷ [])) ys ∙ ap (λ r. xs ++ r) (append_assoc a (x ∷ []) ys)
 
-regrouped : (a b c d e f : List ℕ) (u v w x y z : ℕ) → [] ++ (a ++ (u ∷ [])) ++ (b ++ (v ∷ [])) ++ (c ++ (w ∷ [])) ++ (d ++ (x ∷ [])) ++ (e ++ (y ∷ [])) ++ (f ++ (z ∷ [])) ≡ (a ++ (u ∷ (b ++ (v ∷ [])))) ++ (c ++ (w ∷ (d ++ (x ∷ (e ++ (y ∷ (f ++ (z ∷ []))))))))
+regrouped : (a b c d e f : List ℕ) (u v w x y z : ℕ) → [] ++ (a ++ (u ∷ [])) ++ (b ++ (v ∷ [])) ++ (c ++ (w ∷ [])) ++ (d ++ (x ∷ [])) ++ (e ++ (y ∷ []))
+    ++ (f ++ (z ∷ [])) ≡ (a ++ (u ∷ (b ++ (v ∷ [])))) ++ (c ++ (w ∷ (d ++ (x ∷ (e ++ (y ∷ (f ++ (z ∷ []))))))))
 regrouped a b c d e f u v w x y z =
     let l : List ℕ = [] ++ (a ++ (u ∷ [])) ++ (b ++ (v ∷ [])) in
     let m : List ℕ = l ++ (c ++ (w ∷ [])) in
@@ -165,9 +186,11 @@ regrouped a b c d e f u v w x y z =
     let four : List ℕ = d ++ (x ∷ five) in
     inwards (m ++ (d ++ (x ∷ []))) e six y ∙ inwards m d five x ∙ inwards l c four w ∙ ap (λ r. r ++ (c ++ (w ∷ four))) (inwards [] a (b ++ (v ∷ [])) u)
 
-module _ (input image : List ℕ) (read : image ≡ take 16385 input) (n o : ℕ) (checked : fault n o ≡ first_fault image) (r : Ran) (after : List ℕ) (ran : shown r after ≡ answer image [] 100000 (replicate 1024 0)) where
+module _ (input image : List ℕ) (read : image ≡ take 16385 input) (n o : ℕ) (checked : fault n o ≡ first_fault image) (r : Ran) (after : List ℕ)
+    (ran : shown r after ≡ answer image [] 100000 (replicate 1024 0)) where
   -- the numbers of both lines, each with the byte behind it
   pub two-lines : [] ++ (digits (suc n) n ++ (32 ∷ [])) ++ (digits (suc o) o ++ (10 ∷ [])) ++ (digits (suc r.number) r.number ++ (32 ∷ [])) ++ (digits (suc r.steps) r.steps ++ (32 ∷ []))
       ++ (digits (suc r.words) r.words ++ (32 ∷ [])) ++ (digits (suc r.value) r.value ++ (10 ∷ [])) ≡ printed input
   unfolding printed
-  two-lines = rw (← read, ← checked, ← ran) (regrouped (digits (suc n) n) (digits (suc o) o) (digits (suc r.number) r.number) (digits (suc r.steps) r.steps) (digits (suc r.words) r.words) (digits (suc r.value) r.value) 32 10 32 32 32 10)
+  two-lines = rw (← read, ← checked, ← ran) (regrouped (digits (suc n) n) (digits (suc o) o) (digits (suc r.number) r.number) (digits (suc r.steps) r.steps) (digits (suc r.words) r.words)
+      (digits (suc r.value) r.value) 32 10 32 32 32 10)

@@ -1,6 +1,6 @@
 -- What a text holds.
 use Rattle.std.specs.Prelude.{ℕ, ◌-◌, ◌≤◌, ◌≡◌, List, ◌++◌, length, replicate}
-use Rattle.printer.specs.declared.Text.{Text}
+use Rattle.printer.specs.declared.text.Text.{Text}
 
 -- A text holds these bytes, and zeros behind them.
 pub record Holds (t : Text) (xs : List ℕ) : Type 0 where

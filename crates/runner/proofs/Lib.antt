@@ -2,6 +2,7 @@ pub mod Filling
 pub mod Arithmetic
 pub mod Inverse
 pub mod ClauseLaws
+pub mod Places
 pub mod Heads
 pub mod Starts
 pub mod Ready

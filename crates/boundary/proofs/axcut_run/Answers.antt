@@ -3,4 +3,4 @@ use mathlib.Core.Path.{sym}
 use Rattle.boundary.proofs.axcut_run.Goals as goal
 
 pub returns : goal.returns
-returns c = sym c.run-answer.ensures
+returns c = rw (c.from.ensures.0, c.from.ensures.1.0, c.from.ensures.1.1.0, c.from.ensures.1.1.1) (sym c.run.ensures)

@@ -2,8 +2,8 @@
 use Rattle.checker.proofs.CheckLaws as law
 use Rattle.checker.proofs.check.Goals as goal
 
-pub returns-in-On : goal.returns-in-On
-returns-in-On c = law.check-on _ _ c.read_image.ensures _ c.in-On.is
+pub returns-in-Ok : goal.returns-in-Ok
+returns-in-Ok c = law.check-on _ _ c.in-Ok.ensures
 
-pub returns-in-Bad : goal.returns-in-Bad
-returns-in-Bad c = law.check-bad _ _ c.read_image.ensures _ _ c.in-Bad.is
+pub returns-in-Err : goal.returns-in-Err
+returns-in-Err c = law.check-bad _ _ c.in-Err.ensures _ c.number.ensures

@@ -1,19 +1,7 @@
--- place_signatures: after each turn the table has where the first `i` signatures stand, and the others stand from `p` on, by `skip_signature`; `count - i` falls, and at the end all are placed. Assumes nothing.
-use native.Mathlib.Omega.{arith}
-use mathlib.Core.Path.{refl}
-use lib.ListN.{length-set}
+use Rattle.std.proofs.Common.{rules}
 use Rattle.checker.specs.Laid.{signature_bytes}
-use Rattle.checker.proofs.Places as law
+use Rattle.checker.proofs.PlaceLaws as law
 use Rattle.checker.proofs.head.place_signatures.Goals as goal
 
-pub loop-i-init : goal.loop-i-init
-loop-i-init c = (omega arith, (refl, law.placing-none signature_bytes _ _ _ _))
-
-pub skip_signature-p-requires : goal.skip_signature-p-requires
-skip_signature-p-requires c = tt
-
-pub loop-i-preserved : goal.loop-i-preserved
-loop-i-preserved c = (omega arith, (simp length-set c.loop-i.invariant.1.0, law.placing-more signature_bytes _ _ _ _ _ _ _ c.loop-i-test.true (omega arith) c.skip_signature-p.ensures c.loop-i.invariant.1.1))
-
 pub returns : goal.returns
-returns c = law.placing-all signature_bytes _ _ _ _ _ _ (omega arith) c.loop-i.invariant.1.1
+returns c = law.chained-placed signature_bytes _ _ (λ p q k. search rules) _ _ _ c.places.ensures

@@ -1,16 +1,8 @@
--- read_entry_label: no count byte is 3 and a count above 32 is 4; any other is followed by as many types of the entry, for which `read_entry_types` answers. Assumes nothing.
-use native.Mathlib.Omega.{arith}
-use Prim.Native.Nat.{◌+◌}
-use Rattle.definitions.specs.Reader.{times}
+-- read_entry_label: the counted types, each read by `read_entry_type`. Assumes nothing.
+use Rattle.std.proofs.Common.{rules}
 use Rattle.definitions.specs.FirstFault.{entry_type}
-use Rattle.checker.proofs.Counts as law
+use Rattle.checker.proofs.Repeats as law
 use Rattle.checker.proofs.head.read_entry_label.Goals as goal
 
-pub returns-then-at-s : goal.returns-then-at-s
-returns-then-at-s c = record { within = tt; s_value = law.count_none 0 32 (λ n. times n (entry_type c.args.sigs)) _ _ c.if-at-s.true }
-
-pub returns-then-count-gt32 : goal.returns-then-count-gt32
-returns-then-count-gt32 c = record { within = tt; s_value = law.count-many 0 32 (λ n. times n (entry_type c.args.sigs)) _ _ c.requires c.if-at-s.false (omega arith) c.if-count-gt32.true }
-
-pub returns : goal.returns
-returns c = record { within = law.within-later c.args.at (c.args.at + 1) c.args.s.now c.read_entry_types.result (omega arith) c.read_entry_types.ensures.within; s_value = law.count-fine 0 32 (λ n. times n (entry_type c.args.sigs)) _ _ c.requires c.if-at-s.false (omega arith) (omega arith) _ c.read_entry_types.ensures.s_value }
+pub returns-clause-reads : goal.returns-clause-reads
+returns-clause-reads c = law.counted-reads (entry_type c.args.sigs) _ _ _ _ c.counted.ensures.counted (λ p r k. search rules)

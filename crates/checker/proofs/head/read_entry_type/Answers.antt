@@ -1,16 +1,20 @@
--- read_entry_type: the fault of `read_type` comes first, as in the definition; a type that it read has the kind of the byte at `at`, which so decides between 8 and going on. Assumes nothing.
-use Rattle.checker.proofs.Counts as law
-use Rattle.checker.proofs.Loops as loops
+-- read_entry_type: no kind byte and a type that is refused are the answer; a type that was read must be ext. Assumes nothing.
+use Rattle.std.proofs.Common.{rules, ◌≡◌, Err}
+use Rattle.checker.proofs.HeadLaws as law
 use Rattle.checker.proofs.head.read_entry_type.Goals as goal
 
-pub returns-then-at-s : goal.returns-then-at-s
-returns-then-at-s c = record { within = tt; s_value = law.entry-none _ _ _ c.if-at-s.true }
+pub returns-in_err-kind-clause-reads : goal.returns-in_err-kind-clause-reads
+returns-in_err-kind-clause-reads c =
+    let e : c.from_residual.result ≡ Err c.in_err-kind.field-0.0 = search rules in
+    rw e (law.entry-bad _ _ _ _ (law.type-ended _ _ _ c.in_err-kind.ensures))
 
-pub returns-then-kind-ne-EXT : goal.returns-then-kind-ne-EXT
-returns-then-kind-ne-EXT c = record { within = tt; s_value = law.entry_other _ _ _ _ c.read_type.ensures.s_value c.requires c.if-at-s.false _ c.in-On.is c.if-kind-ne-EXT.true }
+pub returns-in_err-next-clause-reads : goal.returns-in_err-next-clause-reads
+returns-in_err-next-clause-reads c =
+    let e : c.from_residual-in_err-next.result ≡ Err c.in_err-next.field-0.0 = search rules in
+    rw e (law.entry-bad _ _ _ _ c.in_err-next.ensures.reads)
 
-pub returns-else-kind-ne-EXT : goal.returns-else-kind-ne-EXT
-returns-else-kind-ne-EXT c = record { within = loops.within_on _ _ _ _ c.read_type.ensures.within c.in-On.is; s_value = law.entry-ext _ _ _ _ c.read_type.ensures.s_value c.requires c.if-at-s.false _ c.in-On.is c.if-kind-ne-EXT.false }
+pub returns-then-kind-ne-EXT-clause-reads : goal.returns-then-kind-ne-EXT-clause-reads
+returns-then-kind-ne-EXT-clause-reads c = rw c.at.ensures (law.entry_other _ _ _ c.in_ok-kind.ensures _ c.in_ok-next.ensures.reads c.if-kind-ne-EXT.true)
 
-pub returns-in-Bad : goal.returns-in-Bad
-returns-in-Bad c = record { within = tt; s_value = law.entry-bad _ _ _ _ c.read_type.ensures.s_value _ _ c.in-Bad.is }
+pub returns-clause-reads : goal.returns-clause-reads
+returns-clause-reads c = law.entry-ext _ _ _ c.in_ok-kind.ensures _ c.in_ok-next.ensures.reads c.if-kind-ne-EXT.false

@@ -1,259 +1,245 @@
--- bare_clauses, clauses, extern_, last, new_, onward, region, stmt, switch_: each call is at a later byte of the region, or at the same one with a lower rank, so four times the bytes left and a rank fall; the loops keep that whatever answers from here answers from the start. Assumes nothing.
-use Prim.Native.Nat.{◌+◌}
-use native.Mathlib.Omega.{arith}
-use mathlib.Core.Path.{sym}
-use Rattle.checker.proofs.Loops as loops
-use Rattle.checker.proofs.RegionLaws as regions
-use Rattle.checker.proofs.StatementLaws as statements
-use Rattle.checker.proofs.Counts as counts
-use Rattle.checker.proofs.FormLaws as forms
+-- statement, extern_, new_, switch_, bare_clauses, clauses, in_region: what each part answers, by its laws.
+use mathlib.Core.Path.{sym, ◌∙◌}
+use mathlib.Core.Logic.{∥∥₁_map}
 use native.Mathlib.Nat.{sub-zero}
-use Rattle.checker.proofs.ClauseForms as clause-forms
+use native.Mathlib.Omega.{arith}
+use lib.Seq.{length-take-le}
+use Rattle.std.specs.Prelude.{ℕ, ◌+◌, ◌-◌, ◌*◌, ◌≤◌, ◌<◌, ◌≡◌, List, length, get_or}
+use Rattle.definitions.specs.Terms.{ext}
+use Rattle.checker.specs.declared.codes.Form.TheVariants.{Jump, Substitute, Extern, Let, New, Switch, Invoke}
+use Rattle.checker.proofs.Exits.{passed, found, lacking}
+use Rattle.checker.proofs.RegionLaws as regions
+use Rattle.checker.proofs.ClauseLaws as clauses
+use Rattle.checker.proofs.ClauseForms as forms
+use Rattle.checker.proofs.StatementLaws as statements
 use Rattle.checker.proofs.statements.+walk.Goals as goal
-use Rattle.checker.proofs.statements.+walk.Goals.{stmt-in-1-1, stmt-in_default+else-code-lt3+then-code-lt5}
+use Rattle.checker.proofs.statements.+walk.Goals.{extern_-then-gains, extern_-else-gains}
+use Rattle.checker.proofs.statements.+walk.Goals.{statement-in-Substitute+in_ok-substitute-in-Substitute, statement-in-Let+in_ok-let_-in-Let, statement-in-New+in_ok-on-in-New}
 
-pub bare_clauses-loop-left-init : goal.bare_clauses-loop-left-init
-bare_clauses-loop-left-init t c = (omega arith, (omega arith, λ r t. t))
+pub bare_clauses-returns-in_err-inner-clause-reads : goal.bare_clauses-returns-in_err-inner-clause-reads
+bare_clauses-returns-in_err-inner-clause-reads t c =
+    let m = lacking _ _ _ c.in_err-inner.ensures.value c.at.ensures c.from_residual.result c.from_residual.ensures.1 in
+    rw m.1 (c.loop.invariant.are _ (regions.bare-wide (omega arith) m.0))
 
-pub bare_clauses-returns-then-width-gt32 : goal.bare_clauses-returns-then-width-gt32
-bare_clauses-returns-then-width-gt32 t c = record { within = tt; bare_are = c.loop-left.invariant.1.1 _ (regions.bare-wide _ _ _ _ _ _ _ _ _ c.loop-left-test.true c.if-width-gt32.true) }
+pub bare_clauses-returns-in_err-inside-clause-reads : goal.bare_clauses-returns-in_err-inside-clause-reads
+bare_clauses-returns-in_err-inside-clause-reads t c =
+    let m = lacking _ _ _ c.in_err-inside.ensures.value c.at-in-loop.ensures c.from_residual-in_err-inside.result c.from_residual-in_err-inside.ensures.1 in
+    rw m.1 (c.loop.invariant.are _ (regions.bare-deep (omega arith) (found _ _ c.in_ok-inner.ensures.value) (rw m.0 at c.deeper.ensures)))
 
-pub bare_clauses-returns-then-depth-eq48 : goal.bare_clauses-returns-then-depth-eq48
-bare_clauses-returns-then-depth-eq48 t c = record { within = tt; bare_are = c.loop-left.invariant.1.1 _ (regions.bare-deep _ _ _ _ _ _ _ _ _ c.loop-left-test.true (omega arith) c.if-depth-eq48.true) }
+pub bare_clauses-returns-in_err-p-clause-reads : goal.bare_clauses-returns-in_err-p-clause-reads
+bare_clauses-returns-in_err-p-clause-reads t c =
+    let d = rw (found _ _ c.in_ok-inside.ensures.value) at c.deeper.ensures in
+    rw (passed _ c.from_residual-in_err-p.result c.from_residual-in_err-p.ensures.1)
+    (c.loop.invariant.are _ (regions.bare-bad (omega arith) (found _ _ c.in_ok-inner.ensures.value) d.0 d.1 c.in_err-p.ensures.reads))
 
-pub bare_clauses-region-requires : goal.bare_clauses-region-requires
-bare_clauses-region-requires t c = (omega arith, (omega arith, (omega arith, (omega arith, (c.requires.1.1.1.0, c.requires.1.1.1.1)))))
+pub bare_clauses-loop-preserved : goal.bare_clauses-loop-preserved
+bare_clauses-loop-preserved t c =
+    let d = rw (found _ _ c.in_ok-inside.ensures.value) at c.deeper.ensures in
+    let w = rw d.1.bytes at c.in_ok-p.ensures.within in
+    record {
+      later = omega (arith, w.0);
+      inside = w.1;
+      are = λ r t. c.loop.invariant.are r (regions.bare-on (omega arith) (found _ _ c.in_ok-inner.ensures.value) d.0 d.1 c.in_ok-p.ensures.reads w.0 (omega arith) r t);
+    }
 
-pub bare_clauses-returns-in-Bad : goal.bare_clauses-returns-in-Bad
-bare_clauses-returns-in-Bad t c = record { within = tt; bare_are = c.loop-left.invariant.1.1 _ (regions.bare-bad _ _ _ _ _ _ _ _ _ c.loop-left-test.true (omega arith) (omega arith) _ c.region.ensures.region_is _ _ c.in-Bad.is) }
-
-pub bare_clauses-loop-left-preserved : goal.bare_clauses-loop-left-preserved
-bare_clauses-loop-left-preserved t c = let w = loops.within_on _ _ _ _ c.region.ensures.within c.in-On.is in
-    (omega (arith, w), (omega (arith, w), λ r t. c.loop-left.invariant.1.1 r (regions.bare-on _ _ _ _ _ _ _ _ _ c.loop-left-test.true (omega arith) (omega arith) _ c.region.ensures.region_is _ c.in-On.is w.0 r t)))
-
-pub bare_clauses-returns : goal.bare_clauses-returns
-bare_clauses-returns t c = record { within = (omega arith, omega arith); bare_are = c.loop-left.invariant.1.1 _ (regions.bare-none _ _ _ _ _ _ _ _ _ c.loop-left-test.false) }
-
-pub clauses-bounds-image-sig : goal.clauses-bounds-image-sig
-clauses-bounds-image-sig t c = forms.signature-inside _ _ c.requires.1.1.1.1.1.0
+pub bare_clauses-returns-clause-reads : goal.bare_clauses-returns-clause-reads
+bare_clauses-returns-clause-reads t c = c.loop.invariant.are _ (regions.bare-none (omega arith))
 
 pub clauses-overflow_add-list : goal.clauses-overflow_add-list
-clauses-overflow_add-list t c = omega (arith, forms.signature-inside _ _ c.requires.1.1.1.1.1.0)
+clauses-overflow_add-list t c = omega (arith, clauses.signature-inside c.requires.signature, c.args.region.now.short)
 
-pub clauses-loop-i-init : goal.clauses-loop-i-init
-clauses-loop-i-init t c = (omega arith, (omega arith, (omega arith, (rw sub-zero (regions.lists-start _ _ c.requires.1.1.1.1.1.0), λ r t. rw sub-zero at t))))
+pub clauses-bounds-region-sig : goal.clauses-bounds-region-sig
+clauses-bounds-region-sig t c = clauses.signature-inside c.requires.signature
 
-pub clauses-bounds-image-list : goal.clauses-bounds-image-list
-clauses-bounds-image-list t c = let w = regions.lists-next _ _ _ (regions.left-some _ _ c.loop-i-test.true) c.loop-i.invariant.1.1.1.0 in omega (arith, w.0)
+pub clauses-loop-symbol-init : goal.clauses-loop-symbol-init
+clauses-loop-symbol-init t c =
+    record {
+      later = omega arith;
+      inside = c.requires.inside;
+      lists = rw sub-zero (∥∥₁_map c.requires.signature clauses.lists-start);
+      are = λ r t. clauses.named_start (rw sub-zero at t);
+    }
 
-pub clauses-overflow_add-before : goal.clauses-overflow_add-before
-clauses-overflow_add-before t c = let w = regions.lists-next _ _ _ (regions.left-some _ _ c.loop-i-test.true) c.loop-i.invariant.1.1.1.0 in omega (arith, w.0)
+pub clauses-returns-in_err-length_field-clause-reads : goal.clauses-returns-in_err-length_field-clause-reads
+clauses-returns-in_err-length_field-clause-reads t c =
+    rw (passed _ c.from_residual.result c.from_residual.ensures.1)
+    (c.loop-symbol.invariant.are _ (clauses.named-symbol (omega arith) c.in_err-length_field.ensures.reads))
 
-pub clauses-overflow_add-before-in-On : goal.clauses-overflow_add-before-in-On
-clauses-overflow_add-before-in-On t c = let w = regions.lists-next _ _ _ (regions.left-some _ _ c.loop-i-test.true) c.loop-i.invariant.1.1.1.0 in omega (arith, w.0)
+-- the list of the next symbol is inside the image
+next-list : {image : List ℕ} {list symbol many : ℕ} → symbol < many → ∥ clauses.ListsFrom image list (many - symbol) ∥₁ → list + 1 + 2 * get_or image list 0 ≤ length image
+next-list l = clauses.lists-inside (omega arith)
 
-pub clauses-returns-then-before-n-gt32 : goal.clauses-returns-then-before-n-gt32
-clauses-returns-then-before-n-gt32 t c = record { within = tt; clauses_are = regions.named_start c.args.image.now c.args.sigs.now c.args.labels.now c.args.s.now c.args.env (omega arith) c.args.before c.args.from c.args.behind c.args.depth c.requires.1.0 c.requires.1.1.0 _ _ _ (c.loop-i.invariant.1.1.1.1 _ (regions.named-wide c.args.image.now c.args.sigs.now c.args.labels.now c.args.s.now c.args.env (omega arith) c.args.before c.args.from c.args.behind c.args.depth c.requires.1.0 c.requires.1.1.0 _ _ _ _ (regions.left-some _ _ c.loop-i-test.true) _ c.expect_byte.ensures.s_value c.expect_byte.ensures.next _ c.in-On.is c.if-before-n-gt32.true)) }
+pub clauses-parameters-types-requires : goal.clauses-parameters-types-requires
+clauses-parameters-types-requires t c = next-list c.loop-symbol-test.true c.loop-symbol.invariant.lists
 
-pub clauses-returns-then-depth-eq48 : goal.clauses-returns-then-depth-eq48
-clauses-returns-then-depth-eq48 t c = record { within = tt; clauses_are = regions.named_start c.args.image.now c.args.sigs.now c.args.labels.now c.args.s.now c.args.env (omega arith) c.args.before c.args.from c.args.behind c.args.depth c.requires.1.0 c.requires.1.1.0 _ _ _ (c.loop-i.invariant.1.1.1.1 _ (regions.named-deep c.args.image.now c.args.sigs.now c.args.labels.now c.args.s.now c.args.env (omega arith) c.args.before c.args.from c.args.behind c.args.depth c.requires.1.0 c.requires.1.1.0 _ _ _ _ (regions.left-some _ _ c.loop-i-test.true) _ c.expect_byte.ensures.s_value c.expect_byte.ensures.next _ c.in-On.is (omega arith) c.if-depth-eq48.true)) }
+pub clauses-returns-in_err-front-clause-reads : goal.clauses-returns-in_err-front-clause-reads
+clauses-returns-in_err-front-clause-reads t c =
+    let m = lacking _ _ _ c.in_err-front.ensures.value c.at.ensures c.from_residual-in_err-front.result c.from_residual-in_err-front.ensures.1 in
+    rw m.1 (c.loop-symbol.invariant.are _ (clauses.named-wide (omega arith) c.in_ok-length_field.length_field c.in_ok-length_field.ensures.reads
+    (clauses.starts-wide c.parameters-types.ensures.types m.0 c.with_types.ensures)))
 
-pub clauses-overflow_add-list-in-On : goal.clauses-overflow_add-list-in-On
-clauses-overflow_add-list-in-On t c = let w = regions.lists-next _ _ _ (regions.left-some _ _ c.loop-i-test.true) c.loop-i.invariant.1.1.1.0 in omega (arith, w.0)
+pub clauses-returns-in_err-inner-clause-reads : goal.clauses-returns-in_err-inner-clause-reads
+clauses-returns-in_err-inner-clause-reads t c =
+    let m = lacking _ _ _ c.in_err-inner.ensures.value c.at-in-loop-symbol.ensures c.from_residual-in_err-inner.result c.from_residual-in_err-inner.ensures.1 in
+    rw m.1 (c.loop-symbol.invariant.are _ (clauses.named-wide (omega arith) c.in_ok-length_field.length_field c.in_ok-length_field.ensures.reads
+    (clauses.starts-whole c.parameters-types.ensures.types (found _ _ c.in_ok-front.ensures.value) c.with_types.ensures m.0 c.with_entries.ensures)))
 
-pub clauses-put_types-types-requires : goal.clauses-put_types-types-requires
-clauses-put_types-types-requires t c = let w = regions.lists-next _ _ _ (regions.left-some _ _ c.loop-i-test.true) c.loop-i.invariant.1.1.1.0 in (omega arith, omega (arith, w.0))
+pub clauses-returns-in_err-inside-clause-reads : goal.clauses-returns-in_err-inside-clause-reads
+clauses-returns-in_err-inside-clause-reads t c =
+    let m = lacking _ _ _ c.in_err-inside.ensures.value c.at-in-loop-symbol-2.ensures c.from_residual-in_err-inside.result c.from_residual-in_err-inside.ensures.1 in
+    rw m.1 (c.loop-symbol.invariant.are _ (clauses.named-deep (omega arith) c.in_ok-length_field.length_field c.in_ok-length_field.ensures.reads
+    (clauses.starts-whole c.parameters-types.ensures.types (found _ _ c.in_ok-front.ensures.value) c.with_types.ensures (found _ _ c.in_ok-inner.ensures.value) c.with_entries.ensures)
+    (rw m.0 at c.deeper.ensures)))
 
-pub clauses-put_entries-inner-requires : goal.clauses-put_entries-inner-requires
-clauses-put_entries-inner-requires t c = (omega arith, omega arith)
+pub clauses-returns-in_err-p-clause-reads : goal.clauses-returns-in_err-p-clause-reads
+clauses-returns-in_err-p-clause-reads t c =
+    let d = rw (found _ _ c.in_ok-inside.ensures.value) at c.deeper.ensures in
+    rw (passed _ c.from_residual-in_err-p.result c.from_residual-in_err-p.ensures.1)
+    (c.loop-symbol.invariant.are _ (clauses.named-bad (omega arith) c.in_ok-length_field.length_field c.in_ok-length_field.ensures.reads
+    (clauses.starts-whole c.parameters-types.ensures.types (found _ _ c.in_ok-front.ensures.value) c.with_types.ensures (found _ _ c.in_ok-inner.ensures.value) c.with_entries.ensures)
+    d.0 d.1 (omega (arith, c.in_ok-length_field.ensures.next.0)) c.in_err-p.ensures.reads))
 
-pub clauses-region-requires : goal.clauses-region-requires
-clauses-region-requires t c = let w = regions.next-on _ _ _ _ c.expect_byte.ensures.next c.in-On.is in (omega (arith, w), (omega (arith, w), (omega arith, (omega arith, (c.requires.1.1.1.1.0, c.requires.1.1.1.1.1.1)))))
+pub clauses-overflow_add-list-in-loop-symbol : goal.clauses-overflow_add-list-in-loop-symbol
+clauses-overflow_add-list-in-loop-symbol t c = omega (arith, next-list c.loop-symbol-test.true c.loop-symbol.invariant.lists, c.args.region.now.short)
 
-pub clauses-returns-in-Bad-region : goal.clauses-returns-in-Bad-region
-clauses-returns-in-Bad-region t c = record { within = tt; clauses_are = regions.named_start c.args.image.now c.args.sigs.now c.args.labels.now c.args.s.now c.args.env (omega arith) c.args.before c.args.from c.args.behind c.args.depth c.requires.1.0 c.requires.1.1.0 _ _ _ (c.loop-i.invariant.1.1.1.1 _ (regions.named-bad c.args.image.now c.args.sigs.now c.args.labels.now c.args.s.now c.args.env (omega arith) c.args.before c.args.from c.args.behind c.args.depth c.requires.1.0 c.requires.1.1.0 _ _ _ _ (regions.left-some _ _ c.loop-i-test.true) _ c.expect_byte.ensures.s_value c.expect_byte.ensures.next _ c.in-On.is (omega arith) (regions.not-most 48 c.args.depth c.requires.1.1.1.0 c.if-depth-eq48.false) _ _ c.put_types-types.ensures c.put_entries-inner.ensures _ c.region.ensures.region_is _ _ c.in-Bad-region.is)) }
+pub clauses-overflow_add-list-in-loop-symbol-2 : goal.clauses-overflow_add-list-in-loop-symbol-2
+clauses-overflow_add-list-in-loop-symbol-2 t c = omega (arith, next-list c.loop-symbol-test.true c.loop-symbol.invariant.lists, c.args.region.now.short, c.parameters-types.ensures.length)
 
-pub clauses-overflow_add-list-in-On-2 : goal.clauses-overflow_add-list-in-On-2
-clauses-overflow_add-list-in-On-2 t c = let w = regions.lists-next _ _ _ (regions.left-some _ _ c.loop-i-test.true) c.loop-i.invariant.1.1.1.0 in omega (arith, w.0, c.requires.1.1.1.1.0)
+pub clauses-loop-symbol-preserved : goal.clauses-loop-symbol-preserved
+clauses-loop-symbol-preserved t c =
+    let d = rw (found _ _ c.in_ok-inside.ensures.value) at c.deeper.ensures in
+    let w = rw d.1.bytes at c.in_ok-p.ensures.within in
+    let later : c.loop-symbol.p ≤ c.in_ok-length_field.length_field = omega (arith, c.in_ok-length_field.ensures.next.0) in
+    let less : get_or c.args.region.now.image.now c.args.sig 0 - (c.loop-symbol.symbol + 1) ≡ get_or c.args.region.now.image.now c.args.sig 0 - c.loop-symbol.symbol - 1 = omega arith in
+    record {
+      later = omega (arith, w.0, later);
+      inside = w.1;
+      lists = rw less (∥∥₁_map c.loop-symbol.invariant.lists (clauses.lists-next (omega arith) c.parameters-types.ensures.types));
+      are = λ r t.
+          c.loop-symbol.invariant.are r (clauses.named-on (omega arith) c.in_ok-length_field.length_field c.in_ok-length_field.ensures.reads
+          (clauses.starts-whole c.parameters-types.ensures.types (found _ _ c.in_ok-front.ensures.value) c.with_types.ensures (found _ _ c.in_ok-inner.ensures.value) c.with_entries.ensures)
+          d.0 d.1 later c.in_ok-p.ensures.reads (omega (arith, w.0, later)) less c.parameters-types.ensures.types r t);
+    }
 
-pub clauses-overflow_add-list-in-On-3 : goal.clauses-overflow_add-list-in-On-3
-clauses-overflow_add-list-in-On-3 t c = let w = regions.lists-next _ _ _ (regions.left-some _ _ c.loop-i-test.true) c.loop-i.invariant.1.1.1.0 in omega (arith, w.0, c.requires.1.1.1.1.0)
+pub clauses-returns-clause-reads : goal.clauses-returns-clause-reads
+clauses-returns-clause-reads t c = c.loop-symbol.invariant.are _ (clauses.named_none (omega arith))
 
-pub clauses-overflow_add-list-in-On-4 : goal.clauses-overflow_add-list-in-On-4
-clauses-overflow_add-list-in-On-4 t c = let w = regions.lists-next _ _ _ (regions.left-some _ _ c.loop-i-test.true) c.loop-i.invariant.1.1.1.0 in omega (arith, w.0, c.requires.1.1.1.1.0)
+pub extern_-returns-in_err-code-clause-reads : goal.extern_-returns-in_err-code-clause-reads
+extern_-returns-in_err-code-clause-reads t c = rw (passed _ c.from_residual.result c.from_residual.ensures.1) (forms.extern-unknown c.in_err-code.ensures)
 
-pub clauses-returns-in-Bad : goal.clauses-returns-in-Bad
-clauses-returns-in-Bad t c = record { within = tt; clauses_are = regions.named_start c.args.image.now c.args.sigs.now c.args.labels.now c.args.s.now c.args.env (omega arith) c.args.before c.args.from c.args.behind c.args.depth c.requires.1.0 c.requires.1.1.0 _ _ _ (c.loop-i.invariant.1.1.1.1 _ (regions.named-symbol c.args.image.now c.args.sigs.now c.args.labels.now c.args.s.now c.args.env (omega arith) c.args.before c.args.from c.args.behind c.args.depth c.requires.1.0 c.requires.1.1.0 _ _ _ _ (regions.left-some _ _ c.loop-i-test.true) _ c.expect_byte.ensures.s_value c.expect_byte.ensures.next _ _ c.in-Bad.is)) }
+pub extern_-returns-in_err-first-clause-reads : goal.extern_-returns-in_err-first-clause-reads
+extern_-returns-in_err-first-clause-reads t c =
+    rw (passed _ c.from_residual-in_err-first.result c.from_residual-in_err-first.ensures.1)
+    (forms.extern-argument c.in_ok-code.ensures c.arguments.ensures c.in_err-first.field-0.0 c.in_err-first.ensures.reads)
 
-pub clauses-overflow_add-i : goal.clauses-overflow_add-i
-clauses-overflow_add-i t c = omega (arith, c.loop-i-test.true, c.type_inv.image c.args.sig)
+-- the environment of extern's clauses
+gained : {t : ℕ} (c : goal.extern_-After-bare_clauses t) → forms.Gained c.args.env.now c.in_ok-code.code c.if-gains.inner
+gained c = elim c.if-gains.branch [
+  | extern_-then-gains w ↦ rw w.inner-is (forms.gained-one (sym w.if-gains.true ∙ c.gains.ensures) (λ Δ h. w.push-inner.ensures Δ ext h w.ext.ensures))
+  | extern_-else-gains w ↦ rw w.inner-is (forms.gained-none (sym w.if-gains.false ∙ c.gains.ensures))
+]
 
-pub clauses-loop-i-preserved : goal.clauses-loop-i-preserved
-clauses-loop-i-preserved t c = let w = loops.within_on _ _ _ _ c.region.ensures.within c.in-On-region.is in
-    let n = regions.next-on _ _ _ _ c.expect_byte.ensures.next c.in-On.is in
-    (omega (arith, w, n), (omega (arith, w), (omega arith, (regions.lists-on _ _ _ _ (omega arith) (regions.lists-next _ _ _ (regions.left-some _ _ c.loop-i-test.true) c.loop-i.invariant.1.1.1.0).1, λ r t. c.loop-i.invariant.1.1.1.1 r (regions.named-on c.args.image.now c.args.sigs.now c.args.labels.now c.args.s.now c.args.env (omega arith) c.args.before c.args.from c.args.behind c.args.depth c.requires.1.0 c.requires.1.1.0 _ _ _ _ (regions.left-some _ _ c.loop-i-test.true) _ c.expect_byte.ensures.s_value c.expect_byte.ensures.next _ c.in-On.is (omega arith) (regions.not-most 48 c.args.depth c.requires.1.1.1.0 c.if-depth-eq48.false) _ _ c.put_types-types.ensures c.put_entries-inner.ensures _ c.region.ensures.region_is _ c.in-On-region.is (omega (arith, w, n)) _ (omega arith) r t)))))
+pub extern_-returns-clause-reads : goal.extern_-returns-clause-reads
+extern_-returns-clause-reads t c =
+    forms.extern-goes c.in_ok-code.ensures c.arguments.ensures c.in_ok-first.first c.in_ok-first.ensures.reads c.in_ok-first.ensures.within.0
+    (gained c) c.clauses.ensures c.bare_clauses.ensures.reads
 
-pub clauses-returns : goal.clauses-returns
-clauses-returns t c = record { within = (omega arith, omega arith); clauses_are = regions.named_start c.args.image.now c.args.sigs.now c.args.labels.now c.args.s.now c.args.env (omega arith) c.args.before c.args.from c.args.behind c.args.depth c.requires.1.0 c.requires.1.1.0 _ _ _ (c.loop-i.invariant.1.1.1.1 _ (regions.named_none c.args.image.now c.args.sigs.now c.args.labels.now c.args.s.now c.args.env (omega arith) c.args.before c.args.from c.args.behind c.args.depth c.requires.1.0 c.requires.1.1.0 _ _ _ _ (omega arith))) }
+pub in_region-returns-then-bytes-at-lt2-clause-reads : goal.in_region-returns-then-bytes-at-lt2-clause-reads
+in_region-returns-then-bytes-at-lt2-clause-reads t c = rw c.at.ensures (regions.region-none _ _ _ (omega arith))
 
-pub extern_-arguments-requires : goal.extern_-arguments-requires
-extern_-arguments-requires t c = let w = regions.operation-facts c.args.image.now c.args.sigs.now c.args.labels.now c.args.s.now c.args.env (omega arith) c.args.width c.requires.1.0 c.args.depth c.args.at _ c.operation.ensures _ _ _ _ c.in-Known.is in (w.1, c.requires.1.0)
+pub in_region-returns-then-bytes-start-clause-reads : goal.in_region-returns-then-bytes-start-clause-reads
+in_region-returns-then-bytes-start-clause-reads t c = rw c.at-then-bytes-start.ensures (regions.region-long _ _ _ (omega arith) _ c.from_be_bytes-size.ensures (omega arith))
 
-pub extern_-gain-e-requires : goal.extern_-gain-e-requires
-extern_-gain-e-requires t c = let w = regions.operation-facts c.args.image.now c.args.sigs.now c.args.labels.now c.args.s.now c.args.env (omega arith) c.args.width c.requires.1.0 c.args.depth c.args.at _ c.operation.ensures _ _ _ _ c.in-Known.is in (c.requires.1.0, w.2)
+pub in_region-returns-in_err-stopped-clause-reads : goal.in_region-returns-in_err-stopped-clause-reads
+in_region-returns-in_err-stopped-clause-reads t c =
+    rw (passed _ c.from_residual.result c.from_residual.ensures.1) (regions.region-bad _ _ _ (omega arith) _ c.from_be_bytes-size.ensures (omega arith) c.up_to.ensures c.in_err-stopped.ensures.reads)
 
-pub extern_-overflow_add-width : goal.extern_-overflow_add-width
-extern_-overflow_add-width t c = let w = regions.operation-facts c.args.image.now c.args.sigs.now c.args.labels.now c.args.s.now c.args.env (omega arith) c.args.width c.requires.1.0 c.args.depth c.args.at _ c.operation.ensures _ _ _ _ c.in-Known.is in omega (arith, w)
+pub in_region-returns-then-stopped-end-clause-reads : goal.in_region-returns-then-stopped-end-clause-reads
+in_region-returns-then-stopped-end-clause-reads t c =
+    let w = rw c.up_to.ensures.bytes at c.in_ok-stopped.ensures.within in
+    let n = length-take-le (c.args.at + 2 + c.from_be_bytes-size.result) c.args.region.now.bytes.now in
+    rw c.at-then-stopped-end.ensures (regions.region-spare _ _ _ (omega arith) _ c.from_be_bytes-size.ensures (omega arith) c.up_to.ensures c.in_ok-stopped.ensures.reads
+    (omega (arith, w.1, n)) c.if-stopped-end.true)
 
-pub extern_-bare_clauses-requires : goal.extern_-bare_clauses-requires
-extern_-bare_clauses-requires t c = let w = regions.operation-facts c.args.image.now c.args.sigs.now c.args.labels.now c.args.s.now c.args.env (omega arith) c.args.width c.requires.1.0 c.args.depth c.args.at _ c.operation.ensures _ _ _ _ c.in-Known.is in let v = loops.within_on _ _ _ _ c.arguments.ensures.within c.in-On.is in (omega (arith, w, v), (omega (arith, w, v), (omega (arith, w), (c.requires.1.1.0, (c.requires.1.1.1.0, c.requires.1.1.1.1)))))
+pub in_region-returns-clause-reads : goal.in_region-returns-clause-reads
+in_region-returns-clause-reads t c = regions.region-fills _ _ _ (omega arith) _ c.from_be_bytes-size.ensures (omega arith) c.up_to.ensures c.in_ok-stopped.ensures.reads c.if-stopped-end.false
 
-pub extern_-returns-in-On : goal.extern_-returns-in-On
-extern_-returns-in-On t c = let w = regions.operation-facts c.args.image.now c.args.sigs.now c.args.labels.now c.args.s.now c.args.env (omega arith) c.args.width c.requires.1.0 c.args.depth c.args.at _ c.operation.ensures _ _ _ _ c.in-Known.is in let v = loops.within_on _ _ _ _ c.arguments.ensures.within c.in-On.is in record { within = counts.within-later c.args.at c.in-On.p c.args.s.now c.bare_clauses.result (omega (arith, w, v)) c.bare_clauses.ensures.within; extern_is = regions.extern-goes c.args.image.now c.args.sigs.now c.args.labels.now c.args.s.now c.args.env (omega arith) c.args.width c.requires.1.0 c.args.depth c.args.at _ c.operation.ensures _ _ _ _ c.in-Known.is _ c.arguments.ensures.s_value _ c.in-On.is v.0 _ c.gain-e.ensures _ c.bare_clauses.ensures.bare_are }
-
-pub extern_-returns-in-Bad : goal.extern_-returns-in-Bad
-extern_-returns-in-Bad t c = record { within = tt; extern_is = regions.extern-argument c.args.image.now c.args.sigs.now c.args.labels.now c.args.s.now c.args.env (omega arith) c.args.width c.requires.1.0 c.args.depth c.args.at _ c.operation.ensures _ _ _ _ c.in-Known.is _ c.arguments.ensures.s_value _ _ c.in-Bad.is }
-
-pub extern_-returns-in-Unknown : goal.extern_-returns-in-Unknown
-extern_-returns-in-Unknown t c = record { within = tt; extern_is = regions.extern-unknown c.args.image.now c.args.sigs.now c.args.labels.now c.args.s.now c.args.env (omega arith) c.args.width c.requires.1.0 c.args.depth c.args.at _ c.operation.ensures _ _ c.in-Unknown.is }
-
-pub last-jump-requires : goal.last-jump-requires
-last-jump-requires t c = (c.requires.1.0, (c.requires.1.1.0, c.requires.1.1.1.1.1.1))
-
-pub last-extern_-requires : goal.last-extern_-requires
-last-extern_-requires t c = (omega arith, (omega arith, c.requires.1.1))
-
-pub last-switch_-requires : goal.last-switch_-requires
-last-switch_-requires t c = (omega arith, c.requires.1)
-
-pub last-invoke-requires : goal.last-invoke-requires
-last-invoke-requires t c = (c.requires.1.0, (c.requires.1.1.0, (c.requires.1.1.1.1.0, c.requires.1.1.1.1.1.0)))
-
-pub last-returns-in-0 : goal.last-returns-in-0
-last-returns-in-0 t c = record { within = c.jump.ensures.within; statement_is = statements.a-jump c.args.image.now c.args.sigs.now c.args.labels.now c.args.s.now c.args.depth c.args.env (omega arith) c.args.width c.requires.1.1.0 c.args.at c.requires.1.0 c.in-0.is _ c.jump.ensures.jump_is }
-
-pub last-returns-in-2 : goal.last-returns-in-2
-last-returns-in-2 t c = record { within = counts.within-later c.args.at (c.args.at + 1) c.args.s.now c.extern_.result (omega arith) c.extern_.ensures.within; statement_is = statements.an-extern c.args.image.now c.args.sigs.now c.args.labels.now c.args.s.now c.args.depth c.args.env (omega arith) c.args.width c.requires.1.1.0 c.args.at c.requires.1.0 c.in-2.is _ c.extern_.ensures.extern_is }
-
-pub last-returns-in-5 : goal.last-returns-in-5
-last-returns-in-5 t c = record { within = c.switch_.ensures.within; statement_is = statements.a-switch c.args.image.now c.args.sigs.now c.args.labels.now c.args.s.now c.args.depth c.args.env (omega arith) c.args.width c.requires.1.1.0 c.args.at c.requires.1.0 c.in-5.is _ c.switch_.ensures.switch_whole }
-
-pub last-returns-in-6 : goal.last-returns-in-6
-last-returns-in-6 t c = record { within = c.invoke.ensures.within; statement_is = statements.an-invoke c.args.image.now c.args.sigs.now c.args.labels.now c.args.s.now c.args.depth c.args.env (omega arith) c.args.width c.requires.1.1.0 c.args.at c.requires.1.0 c.in-6.is _ c.invoke.ensures.invoke_is }
-
-pub last-returns-in_default : goal.last-returns-in_default
-last-returns-in_default t c = record { within = tt; statement_is = statements.a-code c.args.image.now c.args.sigs.now c.args.labels.now c.args.s.now c.args.depth c.args.env (omega arith) c.args.width c.requires.1.1.0 c.args.at c.requires.1.0 (λ e. omega arith) (λ e. omega arith) (λ e. omega arith) (λ e. omega arith) c.requires.0 }
-
-pub new_-new_head-requires : goal.new_-new_head-requires
-new_-new_head-requires t c = (c.requires.0, c.requires.1.1.1.1.0)
-
-pub new_-overflow_sub-kept : goal.new_-overflow_sub-kept
-new_-overflow_sub-kept t c = let f = clause-forms.new-facts c.args.image.now c.args.sigs.now c.args.labels.now c.args.s.now c.args.env (omega arith) c.args.width c.requires.1.0 c.args.depth c.args.at _ c.new_head.ensures _ _ c.in-Of.is c.requires.1.1.1.1.0 in omega (arith, f.1)
-
-pub new_-overflow_add-at-in-Of-2 : goal.new_-overflow_add-at-in-Of-2
-new_-overflow_add-at-in-Of-2 t c = let f = clause-forms.new-facts c.args.image.now c.args.sigs.now c.args.labels.now c.args.s.now c.args.env (omega arith) c.args.width c.requires.1.0 c.args.depth c.args.at _ c.new_head.ensures _ _ c.in-Of.is c.requires.1.1.1.1.0 in omega (arith, f.0)
-
-pub new_-overflow_add-at-in-Of-3 : goal.new_-overflow_add-at-in-Of-3
-new_-overflow_add-at-in-Of-3 t c = let f = clause-forms.new-facts c.args.image.now c.args.sigs.now c.args.labels.now c.args.s.now c.args.env (omega arith) c.args.width c.requires.1.0 c.args.depth c.args.at _ c.new_head.ensures _ _ c.in-Of.is c.requires.1.1.1.1.0 in omega (arith, f.0)
+pub new_-returns-in_err-sig : goal.new_-returns-in_err-sig
+new_-returns-in_err-sig t c = rw (passed _ c.from_residual.result c.from_residual.ensures.1) (forms.new-refused c.in_err-sig.ensures)
 
 pub new_-clauses-requires : goal.new_-clauses-requires
-new_-clauses-requires t c = let f = clause-forms.new-facts c.args.image.now c.args.sigs.now c.args.labels.now c.args.s.now c.args.env (omega arith) c.args.width c.requires.1.0 c.args.depth c.args.at _ c.new_head.ensures _ _ c.in-Of.is c.requires.1.1.1.1.0 in (omega (arith, f.0), (f.0, (omega arith, (omega (arith, f.1, c.requires.1.0), (c.requires.1.1.0, (c.requires.1.1.1.0, (f.2, c.requires.1.1.1.1)))))))
+new_-clauses-requires t c = let f = forms.new-facts c.in_ok-sig.ensures in (omega (arith, f.0), (f.0, f.2))
 
-pub new_-returns-then-kept-eq32 : goal.new_-returns-then-kept-eq32
-new_-returns-then-kept-eq32 t c = clause-forms.new-wide c.args.image.now c.args.sigs.now c.args.labels.now c.args.s.now c.args.env (omega arith) c.args.width c.requires.1.0 c.args.depth c.args.at _ c.new_head.ensures _ _ c.in-Of.is _ c.clauses.ensures.clauses_are _ c.in-On.is c.if-kept-eq32.true
+pub new_-returns-in_err-on : goal.new_-returns-in_err-on
+new_-returns-in_err-on t c =
+    rw (passed _ c.from_residual-in_err-on.result c.from_residual-in_err-on.ensures.1)
+    (forms.new-clause c.in_ok-sig.ensures c.empty.ensures (forms.back-held c.args.env.now c.in_ok-sig.captures c.entries.ensures) c.in_err-on.ensures.reads)
 
-pub new_-returns-else-kept-eq32 : goal.new_-returns-else-kept-eq32
-new_-returns-else-kept-eq32 t c = let v = loops.within_on _ _ _ _ c.clauses.ensures.within c.in-On.is in clause-forms.new-on c.args.image.now c.args.sigs.now c.args.labels.now c.args.s.now c.args.env (omega arith) c.args.width c.requires.1.0 c.args.depth c.args.at _ c.new_head.ensures _ _ c.in-Of.is _ c.clauses.ensures.clauses_are _ c.in-On.is c.if-kept-eq32.false v.0 v.1
+pub new_-returns-in_err-next : goal.new_-returns-in_err-next
+new_-returns-in_err-next t c =
+    let m = lacking _ _ _ c.in_err-next.ensures.value c.at.ensures c.from_residual-in_err-next.result c.from_residual-in_err-next.ensures.1 in
+    rw m.1 (forms.new-wide c.in_ok-sig.ensures c.empty.ensures (forms.back-held c.args.env.now c.in_ok-sig.captures c.entries.ensures) c.in_ok-on.ensures.reads
+    (forms.pushed (forms.new-facts c.in_ok-sig.ensures).1 c.first.result c.first.ensures.types c.first.ensures.width _ c.cns.ensures (rw m.0 at c.push.ensures)))
 
-pub new_-returns-in-Bad : goal.new_-returns-in-Bad
-new_-returns-in-Bad t c = clause-forms.new-clause c.args.image.now c.args.sigs.now c.args.labels.now c.args.s.now c.args.env (omega arith) c.args.width c.requires.1.0 c.args.depth c.args.at _ c.new_head.ensures _ _ c.in-Of.is _ c.clauses.ensures.clauses_are _ _ c.in-Bad.is
+pub new_-returns : goal.new_-returns
+new_-returns t c =
+    forms.new-on c.in_ok-sig.ensures c.empty.ensures (forms.back-held c.args.env.now c.in_ok-sig.captures c.entries.ensures)
+    c.in_ok-on.ensures.reads c.in_ok-on.ensures.within.0 c.in_ok-on.ensures.within.1
+    (forms.pushed (forms.new-facts c.in_ok-sig.ensures).1 c.first.result c.first.ensures.types c.first.ensures.width _ c.cns.ensures (rw (found _ _ c.in_ok-next.ensures.value) at c.push.ensures))
 
-pub new_-returns-in-Wrong : goal.new_-returns-in-Wrong
-new_-returns-in-Wrong t c = clause-forms.new-bad c.args.image.now c.args.sigs.now c.args.labels.now c.args.s.now c.args.env (omega arith) c.args.width c.requires.1.0 c.args.depth c.args.at _ c.new_head.ensures _ _ c.in-Wrong.is
+pub statement-returns-in_err-form-clause-reads : goal.statement-returns-in_err-form-clause-reads
+statement-returns-in_err-form-clause-reads t c = rw (passed _ c.from_residual.result c.from_residual.ensures.1) (c.loop-e.invariant.is _ (statements.form-refused c.in_err-form.ensures))
 
-pub onward-substitute_head-requires : goal.onward-substitute_head-requires
-onward-substitute_head-requires t c = c.requires.1.0
+pub statement-returns-in-Jump-clause-reads : goal.statement-returns-in-Jump-clause-reads
+statement-returns-in-Jump-clause-reads t c = c.loop-e.invariant.is _ (statements.form-ends Jump c.in_ok-form.ensures c.in-Jump.is c.jump.ensures.reads)
 
-pub onward-let_head-requires : goal.onward-let_head-requires
-onward-let_head-requires t c = (c.requires.1.0, (c.requires.1.1.0, (c.requires.1.1.1.1.0, c.requires.1.1.1.1.1.0)))
+pub statement-returns-in_err-substitute-in-Substitute-clause-reads : goal.statement-returns-in_err-substitute-in-Substitute-clause-reads
+statement-returns-in_err-substitute-in-Substitute-clause-reads t c =
+    rw (passed _ c.from_residual-in_err-substitute-in-Substitute.result c.from_residual-in_err-substitute-in-Substitute.ensures.1)
+    (c.loop-e.invariant.is _ (statements.form-stops Substitute c.in_ok-form.ensures c.in-Substitute.is c.in_err-substitute-in-Substitute.ensures))
 
-pub onward-new_-requires : goal.onward-new_-requires
-onward-new_-requires t c = (omega arith, c.requires.1)
+pub statement-returns-in-Extern-clause-reads : goal.statement-returns-in-Extern-clause-reads
+statement-returns-in-Extern-clause-reads t c = c.loop-e.invariant.is _ (statements.form-ends Extern c.in_ok-form.ensures c.in-Extern.is c.extern_.ensures.reads)
 
-pub onward-returns-in-1 : goal.onward-returns-in-1
-onward-returns-in-1 t c = statements.a-substitute c.args.image.now c.args.sigs.now c.args.labels.now c.args.s.now c.args.depth c.args.env (omega arith) c.args.width c.requires.1.1.0 c.args.at c.requires.1.0 c.in-1.is c.substitute_head.ensures
+pub statement-returns-in_err-let_-in-Let-clause-reads : goal.statement-returns-in_err-let_-in-Let-clause-reads
+statement-returns-in_err-let_-in-Let-clause-reads t c =
+    rw (passed _ c.from_residual-in_err-let_-in-Let.result c.from_residual-in_err-let_-in-Let.ensures.1)
+    (c.loop-e.invariant.is _ (statements.form-stops Let c.in_ok-form.ensures c.in-Let.is c.in_err-let_-in-Let.ensures))
 
-pub onward-returns-in-3 : goal.onward-returns-in-3
-onward-returns-in-3 t c = statements.a-let c.args.image.now c.args.sigs.now c.args.labels.now c.args.s.now c.args.depth c.args.env (omega arith) c.args.width c.requires.1.1.0 c.args.at c.requires.1.0 c.in-3.is c.let_head.ensures
+pub statement-returns-in_err-on-in-New-clause-reads : goal.statement-returns-in_err-on-in-New-clause-reads
+statement-returns-in_err-on-in-New-clause-reads t c =
+    rw (passed _ c.from_residual-in_err-on-in-New.result c.from_residual-in_err-on-in-New.ensures.1)
+    (c.loop-e.invariant.is _ (statements.form-stops New c.in_ok-form.ensures c.in-New.is c.in_err-on-in-New.ensures))
 
-pub onward-returns-in_default : goal.onward-returns-in_default
-onward-returns-in_default t c = statements.a-new c.args.image.now c.args.sigs.now c.args.labels.now c.args.s.now c.args.depth c.args.env (omega arith) c.args.width c.requires.1.1.0 c.args.at c.requires.1.0 (statements.goes-new _ c.requires.0 (λ e. omega arith) (λ e. omega arith)) c.new_.ensures
+pub statement-returns-in-Switch-clause-reads : goal.statement-returns-in-Switch-clause-reads
+statement-returns-in-Switch-clause-reads t c = c.loop-e.invariant.is _ (statements.form-ends Switch c.in_ok-form.ensures c.in-Switch.is c.switch_.ensures.reads)
 
-pub region-returns-then-s-at-lt2 : goal.region-returns-then-s-at-lt2
-region-returns-then-s-at-lt2 t c = record { within = tt; region_is = regions.region-none _ _ _ _ _ _ _ _ c.if-s-at-lt2.true }
+pub statement-returns-in-Invoke-clause-reads : goal.statement-returns-in-Invoke-clause-reads
+statement-returns-in-Invoke-clause-reads t c = c.loop-e.invariant.is _ (statements.form-ends Invoke c.in_ok-form.ensures c.in-Invoke.is c.invoke.ensures.reads)
 
-pub region-overflow_add-size-2 : goal.region-overflow_add-size-2
-region-overflow_add-size-2 t c = omega (arith, c.type_inv.s c.args.at, c.type_inv.s (c.args.at + 1))
+-- where the walk goes on behind a form with a remainder
+onward : {t : ℕ} (c : goal.statement-After-next-1 t) → statements.OnwardIs c.args.region.now c.loop-e.e c.loop-e.p c.match-branch-2.on
+onward c = elim c.match-branch-2.branch [
+  | statement-in-Substitute+in_ok-substitute-in-Substitute w ↦ rw w.on-is (statements.form-goes Substitute c.in_ok-form.ensures w.in-Substitute.is w.in_ok-substitute-in-Substitute.ensures)
+  | statement-in-Let+in_ok-let_-in-Let w ↦ rw w.on-is (statements.form-goes Let c.in_ok-form.ensures w.in-Let.is w.in_ok-let_-in-Let.ensures)
+  | statement-in-New+in_ok-on-in-New w ↦ rw w.on-is (statements.form-goes New c.in_ok-form.ensures w.in-New.is w.in_ok-on-in-New.ensures)
+]
 
-pub region-returns-then-s-start : goal.region-returns-then-s-start
-region-returns-then-s-start t c = record { within = tt; region_is = regions.region-long _ _ _ _ _ _ _ _ (omega arith) (omega arith) }
+pub statement-loop-e-smaller : goal.statement-loop-e-smaller
+statement-loop-e-smaller t c = let o = onward c in omega (arith, o.later, o.inside)
 
-pub region-slice_bounds-stmt-end : goal.region-slice_bounds-stmt-end
-region-slice_bounds-stmt-end t c = sym (regions.region-take c.args.s.now c.args.at (omega arith) (omega arith))
+pub statement-loop-e-preserved : goal.statement-loop-e-preserved
+statement-loop-e-preserved t c =
+    let o = onward c in
+    record { later = omega (arith, o.later, c.loop-e.invariant.later); inside = o.inside; is = λ r t. c.loop-e.invariant.is r (o.is r t) }
 
-pub region-stmt-requires : goal.region-stmt-requires
-region-stmt-requires t c = let n = regions.region-take c.args.s.now c.args.at (omega arith) (omega arith) in (omega (arith, n), (omega (arith, n), (c.requires.1.0, (c.requires.1.1.0, (c.requires.1.1.1.0, c.requires.1.1.1.1)))))
-
-pub region-returns-then-e-end : goal.region-returns-then-e-end
-region-returns-then-e-end t c = let n = regions.region-take c.args.s.now c.args.at (omega arith) (omega arith) in let w = loops.within_on _ _ _ _ c.stmt.ensures.within c.in-On.is in record { within = tt; region_is = regions.region-spare c.args.image.now c.args.sigs.now c.args.labels.now c.args.s.now c.args.env c.args.width c.args.depth c.args.at (omega arith) (omega arith) _ c.stmt.ensures.statement_is _ c.in-On.is (omega (arith, n, w)) c.if-e-end.true }
-
-pub region-returns-else-e-end : goal.region-returns-else-e-end
-region-returns-else-e-end t c = record { within = (omega arith, omega arith); region_is = regions.region-fills c.args.image.now c.args.sigs.now c.args.labels.now c.args.s.now c.args.env c.args.width c.args.depth c.args.at (omega arith) (omega arith) _ c.stmt.ensures.statement_is _ c.in-On.is c.if-e-end.false }
-
-pub region-returns-in-Bad : goal.region-returns-in-Bad
-region-returns-in-Bad t c = record { within = tt; region_is = regions.region-bad c.args.image.now c.args.sigs.now c.args.labels.now c.args.s.now c.args.env c.args.width c.args.depth c.args.at (omega arith) (omega arith) _ c.stmt.ensures.statement_is _ _ c.in-Bad.is }
-
-pub stmt-loop-p-init : goal.stmt-loop-p-init
-stmt-loop-p-init t c = (c.requires.1.0, (omega arith, (c.requires.0, λ r t. t)))
-
-pub stmt-returns-then-p-s : goal.stmt-returns-then-p-s
-stmt-returns-then-p-s t c = record { within = tt; statement_is = c.loop-p.invariant.1.1.1 _ (statements.statement-end _ _ _ _ _ _ _ _ c.if-p-s.true) }
-
-pub stmt-last-requires : goal.stmt-last-requires
-stmt-last-requires t c = (omega arith, (statements.goes-off _ (λ e. omega arith) (λ l h. omega arith), (omega arith, (c.loop-p.invariant.0, (c.requires.1.1.0, (c.requires.1.1.1.0, c.requires.1.1.1.1))))))
-
-pub stmt-returns-in_default : goal.stmt-returns-in_default
-stmt-returns-in_default t c = record { within = counts.within-later c.args.at c.loop-p.p c.args.s.now c.last.result c.loop-p.invariant.1.0 c.last.ensures.within; statement_is = c.loop-p.invariant.1.1.1 _ c.last.ensures.statement_is }
-
-pub stmt-onward-requires : goal.stmt-onward-requires
-stmt-onward-requires t c = (omega arith, (statements.goes_on_codes _ (grind arith) (grind arith) (grind arith), (omega arith, (c.loop-p.invariant.0, (c.requires.1.1.0, (c.requires.1.1.1.0, c.requires.1.1.1.1))))))
-
-pub stmt-renewed-next-requires : goal.stmt-renewed-next-requires
-stmt-renewed-next-requires t c = let f = statements.onward-facts c.args.image.now c.args.sigs.now c.args.labels.now c.args.s.now c.args.depth c.loop-p.e c.loop-p.w c.loop-p.p _ c.onward.ensures _ _ c.in-To.is in (omega (arith, f.0, f.1), f.2)
-
-pub stmt-loop-p-smaller : goal.stmt-loop-p-smaller
-stmt-loop-p-smaller t c = let f = statements.onward-facts c.args.image.now c.args.sigs.now c.args.labels.now c.args.s.now c.args.depth c.loop-p.e c.loop-p.w c.loop-p.p _ c.onward.ensures _ _ c.in-To.is in omega (arith, f.0, f.1)
-
-pub stmt-loop-p-preserved : goal.stmt-loop-p-preserved
-stmt-loop-p-preserved t c = let f = statements.onward-facts c.args.image.now c.args.sigs.now c.args.labels.now c.args.s.now c.args.depth c.loop-p.e c.loop-p.w c.loop-p.p _ c.onward.ensures _ _ c.in-To.is in (f.2.narrow, (omega (arith, f.0), (f.1, λ r t. c.loop-p.invariant.1.1.1 r (statements.onward-on c.args.image.now c.args.sigs.now c.args.labels.now c.args.s.now c.args.depth c.loop-p.e c.loop-p.w c.loop-p.p _ c.onward.ensures _ _ c.in-To.is _ c.renewed-next.ensures r t))))
-
-pub stmt-returns-in-Fails : goal.stmt-returns-in-Fails
-stmt-returns-in-Fails t c = record { within = tt; statement_is = c.loop-p.invariant.1.1.1 _ (statements.onward-bad c.args.image.now c.args.sigs.now c.args.labels.now c.args.s.now c.args.depth c.loop-p.e c.loop-p.w c.loop-p.p _ c.onward.ensures _ _ c.in-Fails.is) }
-
-pub switch_-switch_head-requires : goal.switch_-switch_head-requires
-switch_-switch_head-requires t c = (c.requires.0, (c.requires.1.0, c.requires.1.1.1.1.0))
-
-pub switch_-overflow_sub-width : goal.switch_-overflow_sub-width
-switch_-overflow_sub-width t c = let f = clause-forms.switch-facts c.args.image.now c.args.sigs.now c.args.labels.now c.args.s.now c.args.env (omega arith) c.args.width c.requires.1.0 c.args.depth c.args.at _ c.switch_head.ensures _ c.in-Is.is c.requires.1.1.1.1.0 in omega (arith, f.1)
-
-pub switch_-overflow_add-at-in-Is-2 : goal.switch_-overflow_add-at-in-Is-2
-switch_-overflow_add-at-in-Is-2 t c = let f = clause-forms.switch-facts c.args.image.now c.args.sigs.now c.args.labels.now c.args.s.now c.args.env (omega arith) c.args.width c.requires.1.0 c.args.depth c.args.at _ c.switch_head.ensures _ c.in-Is.is c.requires.1.1.1.1.0 in omega (arith, f.0)
+pub switch_-returns-in_err-sig-clause-reads : goal.switch_-returns-in_err-sig-clause-reads
+switch_-returns-in_err-sig-clause-reads t c = rw (passed _ c.from_residual.result c.from_residual.ensures.1) (forms.switch-refused c.in_err-sig.ensures)
 
 pub switch_-clauses-requires : goal.switch_-clauses-requires
-switch_-clauses-requires t c = let f = clause-forms.switch-facts c.args.image.now c.args.sigs.now c.args.labels.now c.args.s.now c.args.env (omega arith) c.args.width c.requires.1.0 c.args.depth c.args.at _ c.switch_head.ensures _ c.in-Is.is c.requires.1.1.1.1.0 in (omega (arith, f.0), (f.0, (omega (arith, c.requires.1.0), (omega arith, (c.requires.1.1.0, (c.requires.1.1.1.0, (f.2, c.requires.1.1.1.1)))))))
+switch_-clauses-requires t c = let f = forms.switch-facts c.in_ok-sig.ensures in (omega (arith, f.0), (f.0, f.2))
 
-pub switch_-returns-in-Is : goal.switch_-returns-in-Is
-switch_-returns-in-Is t c = record { within = counts.within-later c.args.at (c.args.at + 1 + 1 + 1) c.args.s.now c.clauses.result (omega arith) c.clauses.ensures.within; switch_whole = clause-forms.switch-on c.args.image.now c.args.sigs.now c.args.labels.now c.args.s.now c.args.env (omega arith) c.args.width c.requires.1.0 c.args.depth c.args.at _ c.switch_head.ensures _ c.in-Is.is _ c.clauses.ensures.clauses_are }
-
-pub switch_-returns-in-Not : goal.switch_-returns-in-Not
-switch_-returns-in-Not t c = record { within = tt; switch_whole = clause-forms.switch-bad c.args.image.now c.args.sigs.now c.args.labels.now c.args.s.now c.args.env (omega arith) c.args.width c.requires.1.0 c.args.depth c.args.at _ c.switch_head.ensures _ _ c.in-Not.is }
+pub switch_-returns-clause-reads : goal.switch_-returns-clause-reads
+switch_-returns-clause-reads t c =
+    let f = forms.switch-facts c.in_ok-sig.ensures in
+    forms.switch-on c.in_ok-sig.ensures (forms.front-held c.args.env.now c.first.result 1 f.1 c.first.ensures.types c.first.ensures.width) c.clauses.ensures.reads

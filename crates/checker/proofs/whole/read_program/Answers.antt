@@ -1,22 +1,16 @@
 -- read_program: a fault of the signatures, then of the labels, is the program's; where both were read the head is known, and `read_rest` answers for what follows. Assumes nothing.
-use Rattle.checker.proofs.Loops as loops
+use Rattle.std.proofs.Common.{rules}
 use Rattle.checker.proofs.CheckLaws as law
 use Rattle.checker.proofs.whole.read_program.Goals as goal
 
+pub returns-in_err-heads : goal.returns-in_err-heads
+returns-in_err-heads c = law.program-bad _ _ _ c.in_err-heads.ensures.reads _ (search rules)
+
 pub bounds-image-at : goal.bounds-image-at
-bounds-image-at c = law.signatures-inside _ _ c.type_inv.image _ c.read_signatures.ensures.s_value _ c.in-On.is
+bounds-image-at c = law.signatures-inside _ _ c.type_inv.image _ c.in_ok-heads.ensures.reads
 
-pub read_labels-requires : goal.read_labels-requires
-read_labels-requires c = (loops.within_on _ _ _ _ c.read_signatures.ensures.within c.in-On.is).1
+pub returns-in_err-start : goal.returns-in_err-start
+returns-in_err-start c = law.program-labels-bad _ _ c.type_inv.image _ c.in_ok-heads.ensures.reads _ c.in_err-start.ensures.reads _ (search rules)
 
-pub read_rest-requires : goal.read_rest-requires
-read_rest-requires c = (c.requires.1, law.head_read _ _ c.type_inv.image _ c.read_signatures.ensures.s_value _ c.in-On.is _ c.read_labels.ensures.s_value _ c.in-On-read_labels.is (loops.within_on _ _ _ _ c.read_labels.ensures.within c.in-On-read_labels.is).1)
-
-pub returns-in-On-read_labels : goal.returns-in-On-read_labels
-returns-in-On-read_labels c = c.read_rest.ensures
-
-pub returns-in-Bad-read_labels : goal.returns-in-Bad-read_labels
-returns-in-Bad-read_labels c = law.program-labels-bad _ _ c.type_inv.image _ c.read_signatures.ensures.s_value _ c.in-On.is _ c.read_labels.ensures.s_value _ _ c.in-Bad-read_labels.is
-
-pub returns-in-Bad : goal.returns-in-Bad
-returns-in-Bad c = law.program-bad _ _ c.type_inv.image _ c.read_signatures.ensures.s_value _ _ c.in-Bad.is
+pub read_rest-requires-clause-read : goal.read_rest-requires-clause-read
+read_rest-requires-clause-read c = law.head_read _ _ c.type_inv.image _ c.in_ok-heads.ensures.reads _ c.in_ok-start.ensures.reads c.in_ok-start.ensures.within.1

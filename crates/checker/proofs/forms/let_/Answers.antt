@@ -1,0 +1,36 @@
+-- let: the names of a signature and of its symbol, the symbol's types at the end of the entries, and one more entry in their place. Assumes nothing.
+use Rattle.std.proofs.Common.{rules, sym, refl}
+use Rattle.checker.proofs.ReaderLaws.{name-value}
+use Rattle.checker.proofs.FormLaws as law
+use Rattle.checker.proofs.forms.let_.Goals as goal
+
+pub returns-in_err-t : goal.returns-in_err-t
+returns-in_err-t c = search (rules, law.let-signature)
+
+pub bounds-region-sig : goal.bounds-region-sig
+bounds-region-sig c = law.offset-inside c.args.region.now refl (name-value c.in_ok-t.ensures).2
+
+pub returns-in_err-m : goal.returns-in_err-m
+returns-in_err-m c = search (rules, law.let-symbol)
+
+pub parameters-fields-requires : goal.parameters-fields-requires
+parameters-fields-requires c = law.symbol-inside c.args.region.now refl (name-value c.in_ok-t.ensures).2 c.in_ok-m.ensures c.symbol_at.ensures.laid
+
+pub returns-then-not-ends_with : goal.returns-then-not-ends_with
+returns-then-not-ends_with c =
+    let w = rw c.entries.ensures at c.as_flattened.ensures.value in
+    rw c.at.ensures (law.let-other c.in_ok-t.ensures c.in_ok-m.ensures c.symbol_at.ensures.laid w c.parameters-fields.ensures.types (sym c.if-not-ends_with.ensures.value))
+
+pub returns-in_err-next : goal.returns-in_err-next
+returns-in_err-next c =
+    let w = rw c.entries.ensures at c.as_flattened.ensures.value in
+    let y = law.let-wide {g = c.args.region.now} {env = c.args.env.now} {at = c.args.at}
+    c.in_ok-t.ensures c.in_ok-m.ensures c.symbol_at.ensures.laid w c.parameters-fields.ensures.types (sym c.if-not-ends_with.ensures.value) _
+    (λ Δ k. c.push.ensures Δ _ (rw (c.first-kept.ensures.types, c.first-kept.ensures.width) k) (rw (name-value c.in_ok-t.ensures).1 c.prd.ensures)) _ c.in_err-next.ensures.value c.at-2.ensures in
+    search (rules, y)
+
+pub returns : goal.returns
+returns c =
+    let w = rw c.entries.ensures at c.as_flattened.ensures.value in
+    law.let-goes c.in_ok-t.ensures c.in_ok-m.ensures c.symbol_at.ensures.laid w c.parameters-fields.ensures.types (sym c.if-not-ends_with.ensures.value) _
+    (λ Δ k. c.push.ensures Δ _ (rw (c.first-kept.ensures.types, c.first-kept.ensures.width) k) (rw (name-value c.in_ok-t.ensures).1 c.prd.ensures)) _ c.in_ok-next.ensures.value
