@@ -5,10 +5,10 @@ use mathlib.Core.List.{List, [], ◌∷◌, ◌++◌, map, append-nil}
 use mathlib.Core.Bool.{true, false, cond}
 use mathlib.Core.Logic.{∥∥₁_map}
 use native.Mathlib.Omega.{arith}
-use lib.ListN.{length, get_or, take, drop, replicate, length-drop, length-replicate}
+use lib.ListN.{length, get_or, take, drop, replicate, length-drop, length-replicate, length-append}
 use lib.Seq.{take-length}
 use borrow.Author.Tests.{le-leb, lt-leb}
-use Rattle.std.specs.Prelude.{Ok, Err, Option, Some, None}
+use Rattle.std.specs.Prelude.{Ok, Err}
 use Rattle.definitions.specs.Limits.{widest}
 use Rattle.definitions.specs.Terms.{Ty, cns, ext, Environment, Signature, Clauses, extern, new}
 use Rattle.definitions.specs.Terms as Terms
@@ -27,8 +27,8 @@ use Rattle.checker.specs.declared.region.Region.{Region}
 use Rattle.checker.specs.Faults.{at as fault-at}
 use Rattle.checker.specs.Codes.{Means, argument_count, clause_count, gaining}
 use Rattle.checker.specs.Shown.{forget, shown, Walk}
-use Rattle.checker.specs.Laid.{Known, SignatureAt, signature_bytes}
-use Rattle.checker.specs.Entries.{Held, HeldOr}
+use Rattle.checker.specs.Laid.{Holds, Known, SignatureAt, signature_bytes}
+use Rattle.checker.specs.Entries.{Held, gained}
 use Rattle.checker.specs.Readers.{OperationIs, operation_is, operation_not}
 use Rattle.checker.specs.Regions.{Heads}
 use Rattle.checker.specs.Forms.{EndsIs, GoesIs, goes, stops, NewIs, new_goes, new_stops, SwitchIs, switch_goes, switch_stops}
@@ -39,10 +39,6 @@ use Rattle.checker.proofs.RegionLaws.{held-narrow}
 
 -- ---- extern
 
--- what each clause of an operation gains
-abbrev pub gained : Operation → Environment
-gained o = cond (gaining o) (ext ∷ []) []
-
 means-arguments : (o : Operation) (op : Terms.Operation) → Means o op → length (arguments op) ≡ argument_count o
 means-arguments Lit op m = rw m.1
 means-arguments Add op m = rw m
@@ -52,7 +48,7 @@ means-arguments Ifz op m = rw m
 means-arguments Less op m = rw m
 means-arguments Exit op m = rw m
 
-means-gains : (o : Operation) (op : Terms.Operation) → Means o op → gains op ≡ replicate (clause_count o) (gained o)
+means-gains : (o : Operation) (op : Terms.Operation) → Means o op → gains op ≡ replicate (clause_count o) (gained (gaining o))
 means-gains Lit op m = rw m.1
 means-gains Add op m = rw m
 means-gains Sub op m = rw m
@@ -61,19 +57,9 @@ means-gains Ifz op m = rw m
 means-gains Less op m = rw m
 means-gains Exit op m = rw m
 
--- the environment of the clauses: one more integer where they gain it, or the same
-pub record Gained (env : Env) (o : Operation) (inner : Option Env) : Type 0 where
-  pub held : (Δ : Environment) → Held env Δ → HeldOr inner (Δ ++ gained o)
-
-pub gained-one : {env : Env} {o : Operation} → true ≡ gaining o → {inner : Option Env} → ((Δ : Environment) → Held env Δ → HeldOr inner (Δ ++ (ext ∷ []))) → Gained env o inner
-gained-one e t = record { held = λ Δ h. rw (← e) (t Δ h) }
-
-pub gained-none : {env : Env} {o : Operation} → false ≡ gaining o → Gained env o (Some env)
-gained-none e = record { held = λ Δ h. rw (← e, append-nil) h }
-
-replicate-all : (Γ ps Δ : Environment) (n : ℕ) → Γ ++ ps ++ [] ≡ Δ → All (λ ps. Γ ++ ps ++ [] ≡ Δ) (replicate n ps)
-replicate-all Γ ps Δ zero e = tt
-replicate-all Γ ps Δ (suc n) e = (e, replicate-all Γ ps Δ n e)
+replicate-all : (ps : Environment) (n : ℕ) → All (λ qs. qs ≡ ps) (replicate n ps)
+replicate-all ps zero = tt
+replicate-all ps (suc n) = (refl, replicate-all ps n)
 
 module _ {g : Region} {env : Env} {at : ℕ} where
   pub extern-unknown : {e : Fault} → OperationIs g.bytes.now (at + 1) (Err e) → EndsIs an_extern g env at (Err e)
@@ -91,14 +77,13 @@ module _ {g : Region} {env : Env} {at : ℕ} where
 
     pub extern-goes : {o : Operation} {next : ℕ} → OperationIs g.bytes.now (at + 1) (Ok (o, next)) → n ≡ argument_count o
         → (p : ℕ) → ((Δ : Environment) → Held env Δ → forget (times n (argument Δ) next (drop next g.bytes.now)) ≡ shown g.bytes.now (Ok p)) → next ≤ p
-        → {inner : Option Env} → Gained env o inner → {many : ℕ} → many ≡ clause_count o → {r : Walk} → BareAre g inner many p r → EndsIs an_extern g env at r
+        → {gains many : _} → gains ≡ gaining o → many ≡ clause_count o → {r : Walk} → BareAre g env gains many p r → EndsIs an_extern g env at r
     unfolding after
-    extern-goes {o} (operation_is {next = next} op m r l i) z p t h v {many} c y = record {
+    extern-goes {o} (operation_is {next = next} op m r l i) z p t h {gains} {many} v c y = record {
       is = λ Σ Θ Δ f a k w.
           with' (shown-on g.bytes.now (times (length (arguments op)) (argument Δ) next (drop next g.bytes.now)) (Ok p) p (rw (means-arguments o op m, ← z) (t Δ k)) refl) λ u.
           rw (r, u.1, means-gains o op m, forget-after _ (λ cs. extern op u.0 cs))
-          (y.is Σ Θ Δ (Δ ++ gained o) _ 0 f a (replicate-all Δ (gained o) (Δ ++ gained o) (clause_count o) (append-nil (Δ ++ gained o)))
-          (length-replicate (clause_count o) (gained o) ∙ rw c) (v.held Δ k) (omega arith));
+          (y.is Σ Θ Δ _ 0 f a k (rw v (replicate-all (gained (gaining o)) (clause_count o))) (length-replicate (clause_count o) (gained (gaining o)) ∙ rw c) (omega arith));
     }
 
 -- ---- parts of an environment
@@ -153,10 +138,6 @@ module _ (g : Region) (env : Env) (at : ℕ) where
   abbrev rest : Environment → ℕ → Environment
   rest Δ captures = front Δ captures ++ (cns (get_or g.bytes.now (at + 1) 0) ∷ [])
 
-  -- it is held where it fits
-  pub record Rest (captures : ℕ) (next : Option Env) : Type 0 where
-    pub held : (Δ : Environment) → Held env Δ → HeldOr next (rest Δ captures)
-
   -- the clauses' reader
   abbrev read-clauses : List Signature → List Environment → Environment → ℕ → ℕ → Signature → Read Clauses
   read-clauses Σ Θ Δ f captures S = clauses Σ Θ (statement Σ Θ f) named g.depth [] (back Δ captures) 0 S (at + 4) (drop (at + 4) g.bytes.now)
@@ -167,11 +148,9 @@ module _ (g : Region) (env : Env) (at : ℕ) where
       × (forget (a_new Σ Θ (statement Σ Θ f) at g.depth Δ (at + 1) (drop (at + 1) g.bytes.now)) ≡ forget (after (read-clauses Σ Θ Δ f captures S) (λ cs.
       need (fits (rest Δ captures)) 5 at >> (statement Σ Θ f g.depth (rest Δ captures) >>= (λ u. give (new (get_or g.bytes.now (at + 1) 0) captures cs u))))))
 
--- a consumer pushed behind the entries that are kept
-pub pushed : {g : Region} {env : Env} {at captures : ℕ} → captures ≤ env.width → (first : Env) → first.types ≡ env.types → first.width ≡ env.width - captures
-    → (bs : List ℕ) → type_bytes (cns (get_or g.bytes.now (at + 1) 0)) ≡ bs
-    → {next : Option Env} → ((Δ : Environment) (t : Ty) → Held first Δ → type_bytes t ≡ bs → HeldOr next (Δ ++ (t ∷ []))) → Rest g env at captures next
-pushed {g} {env} {at} {captures} l first e w bs b t = record { held = λ Δ h. t (front Δ captures) (cns (get_or g.bytes.now (at + 1) 0)) (front-held env first captures l e w Δ h) b }
+-- the entries that are kept
+kept-held : (env : Env) (captures : ℕ) → captures ≤ env.width → (Δ : Environment) → Held env Δ → Holds env.types (env.width - captures) (front Δ captures)
+kept-held env captures l Δ h = holds-front env.types env.full env.width env.narrow Δ h captures l
 
 module _ {g : Region} {env : Env} {at sig captures : ℕ} (h : NewIs g env at (Ok (sig, captures)))
     {before : Env} {behind : List (List ℕ)} (none : before.width ≡ 0) (captured : (Δ : Environment) → Held env Δ → behind ≡ map type_bytes (back Δ captures)) where
@@ -193,22 +172,24 @@ module _ {g : Region} {env : Env} {at sig captures : ℕ} (h : NewIs g env at (O
       u.2 ∙ rw (shown-bad g.bytes.now _ (Err e) e u.1 refl))
 
   module _ {on : ℕ} (y : ClausesAre g before behind sig (at + 4) (Ok on)) where
-    pub new-wide : Rest g env at captures None → GoesIs a_new g env at (Err (fault-at Wide at))
+    pub new-wide : env.width - captures ≡ 32 → GoesIs a_new g env at (Err (fault-at Wide at))
     unfolding after need
-    new-wide t = stops {e = fault-at Wide at} (λ Σ Θ Δ f a k w.
+    new-wide full = stops {e = fault-at Wide at} (λ Σ Θ Δ f a k w.
         with' (after-clauses (Ok on) y Σ Θ Δ f a k w) λ u.
         with' (shown-on g.bytes.now _ (Ok on) on u.1 refl) λ m.
-        u.2 ∙ rw (m.1, lt-leb (length (rest g env at Δ captures)) widest (t.held Δ k)))
+        let kept : length (front Δ captures) ≡ 32 = rw full at (holds-length env.types env.full (env.width - captures) (omega (arith, env.narrow)) (front Δ captures) (kept-held env captures (new-facts h).1 Δ k)) in
+        let wide : widest < length (rest g env at Δ captures) = omega (arith, length-append (front Δ captures) (cns (get_or g.bytes.now (at + 1) 0) ∷ []), kept) in
+        u.2 ∙ rw (m.1, lt-leb (length (rest g env at Δ captures)) widest wide))
 
-    pub new-on : at + 4 ≤ on → on ≤ length g.bytes.now → {next : Env} → Rest g env at captures (Some next) → GoesIs a_new g env at (Ok (on, next))
+    pub new-on : at + 4 ≤ on → on ≤ length g.bytes.now → {next : Env}
+        → ((Δ : Environment) (t : Ty) → Holds env.types (env.width - captures) Δ → type_bytes t ≡ type_bytes (cns (get_or g.bytes.now (at + 1) 0)) → Held next (Δ ++ (t ∷ [])))
+        → GoesIs a_new g env at (Ok (on, next))
     unfolding after need
-    new-on l i {next} t = goes {on = on} {env' = next} (omega arith) i (λ Σ Θ Δ f a k w.
+    new-on l i {next} renew = goes {on = on} {env' = next} (omega (arith, l)) i (λ Σ Θ Δ f a k w.
         with' (after-clauses (Ok on) y Σ Θ Δ f a k w) λ u.
-        with' (shown-on g.bytes.now _ (Ok on) on u.1 refl) λ m. (
+        with' (shown-on g.bytes.now _ (Ok on) on u.1 refl) λ m.
+        let held : Held next (rest g env at Δ captures) = renew (front Δ captures) (cns (get_or g.bytes.now (at + 1) 0)) (kept-held env captures (new-facts h).1 Δ k) refl in (
           rest g env at Δ captures,
-          t.held Δ k,
-          u.2 ∙ rw (
-            m.1,
-            le-leb (length (rest g env at Δ captures)) widest (held-narrow next (rest g env at Δ captures) (t.held Δ k)),
-          ) (forget-after _ (λ v. new (get_or g.bytes.now (at + 1) 0) captures m.0 v)),
+          held,
+          u.2 ∙ rw (m.1, le-leb (length (rest g env at Δ captures)) widest (held-narrow next (rest g env at Δ captures) held)) (forget-after _ (λ v. new (get_or g.bytes.now (at + 1) 0) captures m.0 v)),
         ))

@@ -1,6 +1,6 @@
 -- The tests of each form, in each case. Assumes nothing.
 use Rattle.std.proofs.Common.{ℕ, zero, suc, ◌+◌, ◌-◌, ◌*◌, ◌/◌, ◌≤◌, ◌<◌, ◌≡◌, List, [], ◌∷◌, ◌++◌, Bool, true, false, not, length, get_or}
-use Rattle.std.proofs.Common.{take, drop, eqb, refl, sym, ap, ◌∙◌, map, arith, le-leb, length-drop, length-take-le, zero-add}
+use Rattle.std.proofs.Common.{take, drop, eqb, refl, sym, ap, ◌∙◌, map, arith, le-leb, length-drop, length-take-le, length-append, zero-add}
 use Rattle.std.proofs.Common.{Option, None, Some, Result, Ok, Err, ok_or, MatchOption, MatchResult}
 use Rattle.std.specs.List.{IsLastAndRest}
 use Rattle.std.proofs.Math.Option.{none, some}
@@ -24,7 +24,7 @@ use Rattle.checker.specs.declared.region.Region.{Region}
 use Rattle.checker.specs.Faults.{at as fault-at}
 use Rattle.checker.specs.Shown.{Walk, forget, shown, Within}
 use Rattle.checker.specs.Laid.{Laid, Holds, Placed, parameters_bytes, signature_bytes}
-use Rattle.checker.specs.Entries.{Held, HeldOr, Positions, NamedIs}
+use Rattle.checker.specs.Entries.{Held, Positions, NamedIs}
 use Rattle.checker.specs.Readers.{NameIs, CountIs}
 use Rattle.checker.specs.Forms.{EndsIs, GoesIs, goes, stops}
 use Rattle.checker.proofs.Lists.{list-inside, at_some, at_none, types-length, holds-length, holds-front}
@@ -170,11 +170,6 @@ module _ {g : Region} {env : Env} {at : ℕ} (entries : List (List ℕ)) (x : en
 
 -- ---- let
 
--- an environment that holds entries or has no place for them, as an option of which both cases are known
-held-or : (o : Option Env) (Δ : Environment) → HeldOr o Δ → MatchOption o (32 < length Δ) (λ env. Held env Δ)
-held-or None Δ h = h
-held-or (Some env) Δ h = h
-
 -- a symbol's parameters, read, and what the comparison with the last entries says
 record Fields (s : List ℕ) (at m : ℕ) (flat fields : List ℕ) (S : Signature) (Δ : Environment) : Type 0 where
   pub types : Environment
@@ -191,17 +186,16 @@ fields-read {at = at} h f w v S l Δ k =
     let b = v on.entry (f S on.entry l on.is) in
     record { types = on.entry; reads = rw three at on.reads; bytes = b; ends = compared-end Δ on.entry k w b }
 
--- the entries before the fields, and the one that comes in the fields' place
-held-next : (env : Env) {s : List ℕ} {at m : ℕ} (t : ℕ) {flat fields : List ℕ} → flat ≡ flattened (take env.width env.types) → pointwise eqb fields (drop (length flat - length fields) flat) ≡ true
-    → (next : Option Env) → ((Δ : Environment) → Holds env.types (env.width - length fields / 2) Δ → HeldOr next (Δ ++ (prd t ∷ [])))
-    → {S : Signature} {Δ : Environment} → Held env Δ → (it : Fields s at m flat fields S Δ) → HeldOr next (front Δ (length it.types) ++ (prd t ∷ []))
-held-next env t {flat = flat} {fields = fields} w z next push {Δ = Δ} k it =
+-- the entries before the fields, of which there are so many
+held-kept : (env : Env) {s : List ℕ} {at m : ℕ} {flat fields : List ℕ} → flat ≡ flattened (take env.width env.types) → pointwise eqb fields (drop (length flat - length fields) flat) ≡ true
+    → {S : Signature} {Δ : Environment} → Held env Δ → (it : Fields s at m flat fields S Δ) → Holds env.types (env.width - length fields / 2) (front Δ (length it.types))
+held-kept env {flat = flat} {fields = fields} w z {Δ = Δ} k it =
     let same : length fields ≡ length (drop (length flat - length fields) flat) = pointwise_long eqb fields _ z in
     let m : length flat ≡ length Δ + length Δ = ap length (w ∙ ap flattened k ∙ flattened-map Δ) ∙ types-length Δ in
     let n : length Δ ≡ env.width = holds-length env.types env.full env.width env.narrow Δ k in
     let c : length fields ≡ length it.types + length it.types = ap length it.bytes ∙ types-length it.types in
     let half : length fields / 2 ≡ length it.types = omega arith in
-    push (front Δ (length it.types)) (rw half (holds-front env.types env.full env.width env.narrow Δ k (length it.types) (omega (arith, same, length-drop (length flat - length fields) flat))))
+    rw half (holds-front env.types env.full env.width env.narrow Δ k (length it.types) (omega (arith, same, length-drop (length flat - length fields) flat)))
 
 module _ {g : Region} {env : Env} {at : ℕ} where
   pub let-signature : {f : Fault} → NameIs g.bytes.now (length g.sigs.now) (at + 1) (Err f) → GoesIs a_let g env at (Err f)
@@ -226,26 +220,26 @@ module _ {g : Region} {env : Env} {at : ℕ} where
           let it = fields-read h' s w v on.entry (p.signed.laid t on.entry on.is) Δ k in
           rw (on.reads, two, it.reads, ← it.ends, z))
 
-      module _ (z : pointwise eqb fields (drop (length flat - length fields) flat) ≡ true) (next : Option Env)
-          (push : (Δ : Environment) → Holds env.types (env.width - length fields / 2) Δ → HeldOr next (Δ ++ (prd t ∷ []))) where
-        pub let-wide : {f : Fault} (e : Fault) → Err f ≡ ok_or next e → e ≡ fault-at Wide at → GoesIs a_let g env at (Err f)
+      module _ (z : pointwise eqb fields (drop (length flat - length fields) flat) ≡ true) where
+        pub let-wide : env.width - length fields / 2 ≡ 32 → GoesIs a_let g env at (Err (fault-at Wide at))
         unfolding after need
-        let-wide e r y = stops (λ Σ Θ Δ f p k n.
+        let-wide full = stops (λ Σ Θ Δ f p k n.
             let on = name-on Σ p.signed.many h in
             let two : at + 1 + 1 ≡ at + 2 = omega arith in
             let it = fields-read h' s w v on.entry (p.signed.laid t on.entry on.is) Δ k in
-            let l = front Δ (length it.types) ++ (prd t ∷ []) in
-            let x = matched _ _ _ _ r (held-or next l (held-next env t w z next push k it)) in
-            rw (on.reads, two, it.reads, ← it.ends, z, lt-leb (length l) widest x.0, x.1, y))
+            let kept = front Δ (length it.types) in
+            let many : length kept ≡ 32 = rw full at (holds-length env.types env.full (env.width - length fields / 2) (omega (arith, env.narrow)) kept (held-kept env w z k it)) in
+            let wide : widest < length (kept ++ (prd t ∷ [])) = omega (arith, length-append kept (prd t ∷ []), many) in
+            rw (on.reads, two, it.reads, ← it.ends, z, lt-leb (length (kept ++ (prd t ∷ []))) widest wide))
 
-        pub let-goes : {env' : Env} (e : Fault) → Ok env' ≡ ok_or next e → GoesIs a_let g env at (Ok (at + 3, env'))
+        pub let-goes : {env' : Env} → ((Δ : Environment) → Holds env.types (env.width - length fields / 2) Δ → Held env' (Δ ++ (prd t ∷ []))) → GoesIs a_let g env at (Ok (at + 3, env'))
         unfolding after need
-        let-goes {env' = env'} e r = goes (omega arith) (omega (arith, (name-value h').0)) (λ Σ Θ Δ f p k n.
+        let-goes {env' = env'} renew = goes (omega arith) (omega (arith, (name-value h').0)) (λ Σ Θ Δ f p k n.
             let on = name-on Σ p.signed.many h in
             let two : at + 1 + 1 ≡ at + 2 = omega arith in
             let it = fields-read h' s w v on.entry (p.signed.laid t on.entry on.is) Δ k in
             let l = front Δ (length it.types) ++ (prd t ∷ []) in
-            let x = matched _ _ _ _ r (held-or next l (held-next env t w z next push k it)) in
+            let x : Held env' l = renew (front Δ (length it.types)) (held-kept env w z k it) in
             let narrow : length l ≤ widest = omega (arith, holds-length env'.types env'.full env'.width env'.narrow l x, env'.narrow) in
             (l, x, rw (on.reads, two, it.reads, ← it.ends, z, le-leb (length l) widest narrow) (forget-after (statement Σ Θ f g.depth l (at + 3) (drop (at + 3) g.bytes.now)) (λ u. let' t m u))))
 

@@ -1,6 +1,7 @@
 -- What environments hold, and what a walk over positions says.
-use Rattle.std.specs.Prelude.{ℕ, ◌+◌, ◌<◌, ◌≡◌, List, [], map, length, get_or, drop, Option, Some, None, Ok}
-use Rattle.definitions.specs.Terms.{Ty, Environment}
+use Rattle.std.specs.Prelude.{ℕ, ◌+◌, ◌<◌, ◌≡◌, List, [], ◌∷◌, map, length, get_or, drop, Bool, Ok}
+use mathlib.Core.Bool.{cond}
+use Rattle.definitions.specs.Terms.{Ty, ext, Environment}
 use Rattle.definitions.specs.Reader.{got, times, known}
 use Rattle.checker.specs.declared.env.Env.{Env}
 use Rattle.checker.specs.Laid.{Holds}
@@ -10,10 +11,9 @@ use Rattle.checker.specs.Shown.{forget, shown, Walk}
 abbrev pub Held : Env → Environment → Type 0
 Held env Δ = Holds env.types env.width Δ
 
--- Where there is one, it holds these types; where there is none, they are more than it could hold.
-abbrev pub HeldOr : Option Env → Environment → Type 0
-HeldOr (Some env) Δ = Held env Δ
-HeldOr None Δ = 32 < length Δ
+-- What a clause of extern gains: an integer, or nothing.
+abbrev pub gained : Bool → Environment
+gained gains = cond gains (ext ∷ []) []
 
 -- Every one of these bytes is below a bound.
 abbrev pub Below : List ℕ → ℕ → ℕ → ℕ → Type 0

@@ -34,6 +34,11 @@ pub data GoesIs (form : Reading) (g : Region) (env : Env) (at : ℕ) : Result (�
       → forget (form Σ Θ (statement Σ Θ f) at g.depth Δ (at + 1) (drop (at + 1) g.bytes.now)) ≡ refused (told e))
       → GoesIs form g env at (Err e)
 
+-- What a walk over a form with a remainder answers and leaves: where the remainder stands, and the environment of it.
+abbrev pub leaving : Env → Walk → Result (ℕ × Env) Fault
+leaving env (Ok on) = Ok (on, env)
+leaving env (Err e) = Err e
+
 -- new, up to its clauses: the offset of its signature, and how many entries it captures
 pub data NewIs (g : Region) (env : Env) (at : ℕ) : Result (ℕ × ℕ) Fault → Type 0 where
   new_goes : {sig captures : ℕ} → at + 4 ≤ length g.bytes.now → captures ≤ env.width → sig ≡ get_or g.sigs.now (get_or g.bytes.now (at + 1) 0) 0 → get_or g.bytes.now (at + 1) 0 < length g.sigs.now

@@ -1,13 +1,14 @@
 // What the check does with an environment: entries are taken, added, compared and named.
 ghost use Rattle.std.specs.Prelude.{◌≡◌, [], ◌∷◌, ◌++◌, ◌+◌, ◌-◌, ◌≤◌, ◌<◌, length, take, drop};
-ghost use mathlib.Core.List.{map, flat_map};
+ghost use mathlib.Core.List.{map};
+ghost use mathlib.Core.Bool.{true};
 ghost use Rattle.definitions.specs.Terms.{Ty, Environment};
 ghost use Rattle.definitions.specs.Layout.{type_bytes};
 ghost use Rattle.definitions.specs.Reader.{times};
 ghost use Rattle.definitions.specs.FirstFault.{argument};
 ghost use Rattle.checker.specs.Shown.{forget, shown, Within};
 ghost use Rattle.checker.specs.Laid.{Holds};
-ghost use Rattle.checker.specs.Entries.{HeldOr, Below, NamedIs, Positions};
+ghost use Rattle.checker.specs.Entries.{Held, Below, NamedIs, Positions, gained};
 
 use crate::env::Env;
 use crate::faults::{Fault, Refusal};
@@ -44,44 +45,42 @@ impl Env {
         }
     }
 
-    // One more entry, where there is a place for it.
-    pub(crate) fn push(&self, entry: Type) -> Option<Env>
-        ensures { (Δ : Environment) (t : Ty) → Holds self.now.types self.now.width Δ → type_bytes t ≡ entry.kind ∷ entry.number ∷ [] → HeldOr result (Δ ++ (t ∷ [])) }
+    // The first entries, and one more behind them.
+    // Written in place: an environment goes by value into each clause, and not from statement to statement.
+    pub(crate) fn renew(&mut self, kept: usize, entry: Type)
+        requires { kept < 32 }
+        ensures { (Δ : Environment) (t : Ty) → Holds self.old.types kept Δ → type_bytes t ≡ entry.kind ∷ entry.number ∷ [] → Held self.new (Δ ++ (t ∷ [])) }
     {
-        if self.width == 32 {
-            return None;
-        }
-        let mut types = self.types;
         // an entry is its two bytes: nothing is copied here that a library call would copy
-        types[self.width] = [entry.kind, entry.number];
-        Some(Env {
-            types,
-            width: self.width + 1,
-        })
+        self.types[kept] = [entry.kind, entry.number];
+        self.width = kept + 1;
     }
 
-    // The entries and behind them these, where there are places for them.
-    pub(crate) fn with_entries(&self, entries: &[[u8; 2]]) -> Option<Env>
-        ensures { (Δ Γ : Environment) → Holds self.now.types self.now.width Δ → entries.now ≡ map type_bytes Γ → HeldOr result (Δ ++ Γ) }
+    // The entries, and an integer behind them where one is gained.
+    pub(crate) fn gaining(&self, gains: bool) -> Env
+        requires { gains ≡ true → self.now.width < 32 }
+        ensures { (Δ : Environment) → Held self.now Δ → Held result (Δ ++ gained gains) }
     {
-        let width = self.width;
-        if 32 - width < entries.len() {
-            return None;
+        let mut env = *self;
+        if gains {
+            env.renew(self.width, Type::ext());
         }
-        let mut types = self.types;
-        types[width..width + entries.len()].copy_from_slice(entries);
-        Some(Env {
-            types,
-            width: width + entries.len(),
-        })
+        env
     }
 
-    // The entries and behind them the types with these bytes, where there are places for them.
-    pub(crate) fn with_types(&self, bytes: &[u8]) -> Option<Env>
-        ensures { (Δ Γ : Environment) → Holds self.now.types self.now.width Δ → bytes.now ≡ flat_map type_bytes Γ → HeldOr result (Δ ++ Γ) }
+    // The entries, these behind them, and the last ones behind those.
+    pub(crate) fn followed_by(&self, entries: &[[u8; 2]], last: &[[u8; 2]]) -> Env
+        requires { self.now.width + length entries.now + length last.now ≤ 32 }
+        ensures { (Δ Γ Λ : Environment) → Held self.now Δ → entries.now ≡ map type_bytes Γ → last.now ≡ map type_bytes Λ → Held result (Δ ++ Γ ++ Λ) }
     {
-        let (entries, _) = bytes.as_chunks();
-        self.with_entries(entries)
+        let between = self.width + entries.len();
+        let mut types = self.types;
+        put(&mut types, self.width, entries);
+        put(&mut types, between, last);
+        Env {
+            types,
+            width: between + last.len(),
+        }
     }
 
     // The entries that these positions name, in that order.
@@ -99,6 +98,17 @@ impl Env {
             types,
             width: positions.len(),
         }
+    }
+}
+
+// Entries from `at` on.
+fn put(types: &mut [[u8; 2]; 32], at: usize, entries: &[[u8; 2]])
+    requires { at + length entries.now ≤ 32 }
+    ensures { take (at + length entries.now) types.new ≡ take at types.old ++ entries.now }
+{
+    // a loop, not `copy_from_slice`: entries are few, and mostly none
+    for (i, entry) in entries.iter().enumerate() {
+        types[at + i] = *entry;
     }
 }
 

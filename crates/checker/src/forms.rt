@@ -2,7 +2,7 @@
 ghost use Rattle.std.specs.Prelude.{◌+◌, ◌<◌, length};
 ghost use Rattle.definitions.specs.FirstFault.{a_jump, a_substitute, a_let, an_invoke};
 ghost use Rattle.checker.specs.Shown.{Within};
-ghost use Rattle.checker.specs.Forms.{EndsIs, GoesIs, NewIs, SwitchIs};
+ghost use Rattle.checker.specs.Forms.{EndsIs, GoesIs, NewIs, SwitchIs, leaving};
 
 use crate::entries::positions;
 use crate::env::Env;
@@ -26,20 +26,21 @@ pub(crate) fn jump(region: &Region<'_>, env: &Env, at: usize) -> Result<usize, F
     Ok(at + 2)
 }
 
-// substitute, of which the code stands at `at`: where its remainder stands, and the environment of that.
-pub(crate) fn substitute(region: &Region<'_>, env: &Env, at: usize) -> Result<(usize, Env), Fault>
+// substitute, of which the code stands at `at`: where its remainder stands; the environment is left as that has it.
+pub(crate) fn substitute(region: &Region<'_>, env: &mut Env, at: usize) -> Result<usize, Fault>
     requires { at < length region.now.bytes.now }
-    ensures { GoesIs a_substitute region.now env.now at result }
+    ensures { GoesIs a_substitute region.now env.old at (leaving env.new result) }
 {
     let named = count(region.bytes, at + 1, 0, 32)?;
     let on = positions(region.bytes, env.width, at + 2, named)?;
-    Ok((on, env.named(&region.bytes[at + 2..on])))
+    *env = env.named(&region.bytes[at + 2..on]);
+    Ok(on)
 }
 
-// let, of which the code stands at `at`: where its remainder stands, and the environment of that.
-pub(crate) fn let_(region: &Region<'_>, env: &Env, at: usize) -> Result<(usize, Env), Fault>
+// let, of which the code stands at `at`: where its remainder stands; the environment is left as that has it.
+pub(crate) fn let_(region: &Region<'_>, env: &mut Env, at: usize) -> Result<usize, Fault>
     requires { at < length region.now.bytes.now }
-    ensures { GoesIs a_let region.now env.now at result }
+    ensures { GoesIs a_let region.now env.old at (leaving env.new result) }
 {
     let t = name(region.bytes, region.sigs.len(), at + 1)?;
     let sig = region.sigs[t];
@@ -48,11 +49,12 @@ pub(crate) fn let_(region: &Region<'_>, env: &Env, at: usize) -> Result<(usize, 
     if !env.entries().as_flattened().ends_with(fields) {
         return Err(Refusal::Untyped.at(at));
     }
-    let kept = env.first(env.width - fields.len() / 2);
-    let next = kept
-        .push(Type::prd(region.bytes[at + 1]))
-        .ok_or(Refusal::Wide.at(at))?;
-    Ok((at + 3, next))
+    let kept = env.width - fields.len() / 2;
+    if kept == 32 {
+        return Err(Refusal::Wide.at(at));
+    }
+    env.renew(kept, Type::prd(region.bytes[at + 1]));
+    Ok(at + 3)
 }
 
 // new, up to its clauses: where its signature stands, and how many entries it captures.

@@ -3,7 +3,7 @@ ghost use Rattle.std.specs.Prelude.{◌≤◌, ◌<◌, ◌+◌, length};
 ghost use Rattle.definitions.specs.FirstFault.{an_extern, a_new, a_switch};
 ghost use Rattle.checker.specs.Laid.{SignatureAt};
 ghost use Rattle.checker.specs.Shown.{Within};
-ghost use Rattle.checker.specs.Forms.{EndsIs, GoesIs};
+ghost use Rattle.checker.specs.Forms.{EndsIs, GoesIs, leaving};
 ghost use Rattle.checker.specs.Statements.{StatementIs, RegionIs, ClausesAre, BareAre};
 
 use crate::codes::Form;
@@ -26,17 +26,15 @@ pub(crate) fn statement(region: &Region<'_>, env: Env, at: usize) -> Result<usiz
     let mut p = at;
     loop {
         // a `match`, not a table of closures: the forms are the paper's, and it is checked to be whole
-        let (on, next) = match form(region.bytes, p)? {
+        p = match form(region.bytes, p)? {
             Form::Jump => return jump(region, &e, p),
-            Form::Substitute => substitute(region, &e, p)?,
+            Form::Substitute => substitute(region, &mut e, p)?,
             Form::Extern => return extern_(region, &e, p),
-            Form::Let => let_(region, &e, p)?,
-            Form::New => new_(region, &e, p)?,
+            Form::Let => let_(region, &mut e, p)?,
+            Form::New => new_(region, &mut e, p)?,
             Form::Switch => return switch_(region, &e, p),
             Form::Invoke => return invoke(region, &e, p),
         };
-        p = on;
-        e = next;
     }
 }
 
@@ -49,28 +47,23 @@ fn extern_(region: &Region<'_>, env: &Env, at: usize) -> Result<usize, Fault>
 {
     let (code, next) = operation(region.bytes, at + 1)?;
     let first = arguments(region.bytes, env, next, code.arguments())?;
-    let inner = if code.gains() {
-        env.push(Type::ext())
-    } else {
-        Some(*env)
-    };
-    bare_clauses(region, inner, first, code.clauses())
+    bare_clauses(region, env, code.gains(), first, code.clauses())
 }
 
-// new with its clauses, of which the code stands at `at`: where its remainder stands, and the environment of that.
+// new with its clauses, of which the code stands at `at`: where its remainder stands; the environment is left as that has it.
 #[cycle(walk)]
-fn new_(region: &Region<'_>, env: &Env, at: usize) -> Result<(usize, Env), Fault>
+fn new_(region: &Region<'_>, env: &mut Env, at: usize) -> Result<usize, Fault>
     requires { at < length region.now.bytes.now }
-    ensures { GoesIs a_new region.now env.now at result }
+    ensures { GoesIs a_new region.now env.old at (leaving env.new result) }
 {
     let (sig, captures) = new_head(region, env, at)?;
     let kept = env.width - captures;
-    let on = clauses(region, Env::empty(), &env.entries()[kept..], at + 4, sig)?;
-    let next = env
-        .first(kept)
-        .push(Type::cns(region.bytes[at + 1]))
-        .ok_or(Refusal::Wide.at(at))?;
-    Ok((on, next))
+    let on = clauses(region, &Env::empty(), &env.entries()[kept..], at + 4, sig)?;
+    if kept == 32 {
+        return Err(Refusal::Wide.at(at));
+    }
+    env.renew(kept, Type::cns(region.bytes[at + 1]));
+    Ok(on)
 }
 
 // switch with its clauses, of which the code stands at `at`.
@@ -82,26 +75,31 @@ fn switch_(region: &Region<'_>, env: &Env, at: usize) -> Result<usize, Fault>
 {
     let sig = switch_head(region, env, at)?;
     let kept = env.width - 1;
-    clauses(region, env.first(kept), &env.entries()[..0], at + 3, sig)
+    clauses(region, &env.first(kept), &env.entries()[..0], at + 3, sig)
 }
 
-// `many` clauses without symbol byte from `at` on, each with this environment, where it fits.
+// `many` clauses without symbol byte from `at` on, each with this environment, and with one integer more where it is gained.
 #[cycle(walk)]
 fn bare_clauses(
     region: &Region<'_>,
-    env: Option<Env>,
+    env: &Env,
+    gains: bool,
     at: usize,
     many: usize,
 ) -> Result<usize, Fault>
     requires { at ≤ length region.now.bytes.now }
     ensures within { Within at region.now.bytes.now result }
-    ensures reads { BareAre region.now env many at result }
+    ensures reads { BareAre region.now env.now gains many at result }
 {
     let mut p = at;
     for _ in 0..many {
-        let inner = env.ok_or(Refusal::Wide.at(p))?;
-        let inside = region.deeper().ok_or(Refusal::Deep.at(p))?;
-        p = in_region(&inside, inner, p)?;
+        if gains && env.width == 32 {
+            return Err(Refusal::Wide.at(p));
+        }
+        if region.depth == 48 {
+            return Err(Refusal::Deep.at(p));
+        }
+        p = in_region(region, env.gaining(gains), region.depth + 1, p)?;
     }
     Ok(p)
 }
@@ -110,7 +108,7 @@ fn bare_clauses(
 #[cycle(walk)]
 fn clauses(
     region: &Region<'_>,
-    before: Env,
+    before: &Env,
     behind: &[[u8; 2]],
     at: usize,
     sig: usize,
@@ -118,28 +116,33 @@ fn clauses(
     requires inside { at ≤ length region.now.bytes.now }
     requires signature { ∥ SignatureAt region.now.image.now sig ∥₁ }
     ensures within { Within at region.now.bytes.now result }
-    ensures reads { ClausesAre region.now before behind.now sig at result }
+    ensures reads { ClausesAre region.now before.now behind.now sig at result }
 {
     let mut p = at;
     let mut list = sig + 1;
     for symbol in 0..region.image[sig] {
         let length_field = expect_byte(region.bytes, symbol, p)?;
-        let types = parameters(region.image, list);
-        let front = before.with_types(types).ok_or(Refusal::Wide.at(p))?;
-        let inner = front.with_entries(behind).ok_or(Refusal::Wide.at(p))?;
-        let inside = region.deeper().ok_or(Refusal::Deep.at(p))?;
-        p = in_region(&inside, inner, length_field)?;
-        list = list + 1 + types.len();
+        let (fields, _) = parameters(region.image, list).as_chunks();
+        if 32 < before.width + fields.len() + behind.len() {
+            return Err(Refusal::Wide.at(p));
+        }
+        if region.depth == 48 {
+            return Err(Refusal::Deep.at(p));
+        }
+        let inner = before.followed_by(fields, behind);
+        p = in_region(region, inner, region.depth + 1, length_field)?;
+        list = list + 1 + 2 * fields.len();
     }
     Ok(p)
 }
 
-// The region of which the length field stands at `at`, filled by one statement.
+// The region of which the length field stands at `at`, so many clauses deep, filled by one statement.
 #[cycle(walk)]
-pub(crate) fn in_region(region: &Region<'_>, env: Env, at: usize) -> Result<usize, Fault>
-    requires { at ≤ length region.now.bytes.now }
+pub(crate) fn in_region(region: &Region<'_>, env: Env, depth: usize, at: usize) -> Result<usize, Fault>
+    requires inside { at ≤ length region.now.bytes.now }
+    requires shallow { depth ≤ 48 }
     ensures within { Within at region.now.bytes.now result }
-    ensures reads { RegionIs region.now env at result }
+    ensures reads { RegionIs region.now env depth at result }
 {
     let bytes = region.bytes;
     if bytes.len() - at < 2 {
@@ -151,7 +154,7 @@ pub(crate) fn in_region(region: &Region<'_>, env: Env, at: usize) -> Result<usiz
         return Err(Refusal::Short.at(at));
     }
     let end = start + size;
-    let stopped = statement(&region.up_to(end), env, start)?;
+    let stopped = statement(&region.up_to(end, depth), env, start)?;
     if stopped != end {
         return Err(Refusal::Left.at(stopped));
     }

@@ -20,10 +20,9 @@ pub(crate) fn bodies(region: &Region<'_>, at: usize) -> Result<usize, Fault>
 {
     let mut p = at;
     for list in region.labels {
-        let env = Env::empty()
-            .with_types(parameters(region.image, *list))
-            .unwrap();
-        p = in_region(region, env, p)?;
+        let (types, _) = parameters(region.image, *list).as_chunks();
+        let env = Env::empty().followed_by(types, &types[..0]);
+        p = in_region(region, env, region.depth, p)?;
     }
     Ok(p)
 }

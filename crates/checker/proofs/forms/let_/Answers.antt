@@ -21,16 +21,13 @@ returns-then-not-ends_with c =
     let w = rw c.entries.ensures at c.as_flattened.ensures.value in
     rw c.at.ensures (law.let-other c.in_ok-t.ensures c.in_ok-m.ensures c.symbol_at.ensures.laid w c.parameters-fields.ensures.types (sym c.if-not-ends_with.ensures.value))
 
-pub returns-in_err-next : goal.returns-in_err-next
-returns-in_err-next c =
+pub returns-then-kept-eq32 : goal.returns-then-kept-eq32
+returns-then-kept-eq32 c =
     let w = rw c.entries.ensures at c.as_flattened.ensures.value in
-    let y = law.let-wide {g = c.args.region.now} {env = c.args.env.now} {at = c.args.at}
-    c.in_ok-t.ensures c.in_ok-m.ensures c.symbol_at.ensures.laid w c.parameters-fields.ensures.types (sym c.if-not-ends_with.ensures.value) _
-    (λ Δ k. c.push.ensures Δ _ (rw (c.first-kept.ensures.types, c.first-kept.ensures.width) k) (rw (name-value c.in_ok-t.ensures).1 c.prd.ensures)) _ c.in_err-next.ensures.value c.at-2.ensures in
-    search (rules, y)
+    rw c.at-then-kept-eq32.ensures (law.let-wide c.in_ok-t.ensures c.in_ok-m.ensures c.symbol_at.ensures.laid w c.parameters-fields.ensures.types (sym c.if-not-ends_with.ensures.value) c.if-kept-eq32.true)
 
 pub returns : goal.returns
 returns c =
     let w = rw c.entries.ensures at c.as_flattened.ensures.value in
-    law.let-goes c.in_ok-t.ensures c.in_ok-m.ensures c.symbol_at.ensures.laid w c.parameters-fields.ensures.types (sym c.if-not-ends_with.ensures.value) _
-    (λ Δ k. c.push.ensures Δ _ (rw (c.first-kept.ensures.types, c.first-kept.ensures.width) k) (rw (name-value c.in_ok-t.ensures).1 c.prd.ensures)) _ c.in_ok-next.ensures.value
+    law.let-goes c.in_ok-t.ensures c.in_ok-m.ensures c.symbol_at.ensures.laid w c.parameters-fields.ensures.types (sym c.if-not-ends_with.ensures.value)
+    (λ Δ k. c.renew.ensures Δ _ k (rw (name-value c.in_ok-t.ensures).1 c.prd.ensures))

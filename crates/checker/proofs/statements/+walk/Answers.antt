@@ -4,7 +4,7 @@ use mathlib.Core.Logic.{∥∥₁_map}
 use native.Mathlib.Nat.{sub-zero}
 use native.Mathlib.Omega.{arith}
 use lib.Seq.{length-take-le}
-use Rattle.std.specs.Prelude.{ℕ, ◌+◌, ◌-◌, ◌*◌, ◌≤◌, ◌<◌, ◌≡◌, List, length, get_or}
+use Rattle.std.specs.Prelude.{ℕ, ◌+◌, ◌-◌, ◌*◌, ◌≤◌, ◌<◌, ◌≡◌, List, length, get_or, true}
 use Rattle.definitions.specs.Terms.{ext}
 use Rattle.checker.specs.declared.codes.Form.TheVariants.{Jump, Substitute, Extern, Let, New, Switch, Invoke}
 use Rattle.checker.proofs.Exits.{passed, found, lacking}
@@ -13,37 +13,7 @@ use Rattle.checker.proofs.ClauseLaws as clauses
 use Rattle.checker.proofs.ClauseForms as forms
 use Rattle.checker.proofs.StatementLaws as statements
 use Rattle.checker.proofs.statements.+walk.Goals as goal
-use Rattle.checker.proofs.statements.+walk.Goals.{extern_-then-gains, extern_-else-gains}
-use Rattle.checker.proofs.statements.+walk.Goals.{statement-in-Substitute+in_ok-substitute-in-Substitute, statement-in-Let+in_ok-let_-in-Let, statement-in-New+in_ok-on-in-New}
-
-pub bare_clauses-returns-in_err-inner-clause-reads : goal.bare_clauses-returns-in_err-inner-clause-reads
-bare_clauses-returns-in_err-inner-clause-reads t c =
-    let m = lacking _ _ _ c.in_err-inner.ensures.value c.at.ensures c.from_residual.result c.from_residual.ensures.1 in
-    rw m.1 (c.loop.invariant.are _ (regions.bare-wide (omega arith) m.0))
-
-pub bare_clauses-returns-in_err-inside-clause-reads : goal.bare_clauses-returns-in_err-inside-clause-reads
-bare_clauses-returns-in_err-inside-clause-reads t c =
-    let m = lacking _ _ _ c.in_err-inside.ensures.value c.at-in-loop.ensures c.from_residual-in_err-inside.result c.from_residual-in_err-inside.ensures.1 in
-    rw m.1 (c.loop.invariant.are _ (regions.bare-deep (omega arith) (found _ _ c.in_ok-inner.ensures.value) (rw m.0 at c.deeper.ensures)))
-
-pub bare_clauses-returns-in_err-p-clause-reads : goal.bare_clauses-returns-in_err-p-clause-reads
-bare_clauses-returns-in_err-p-clause-reads t c =
-    let d = rw (found _ _ c.in_ok-inside.ensures.value) at c.deeper.ensures in
-    rw (passed _ c.from_residual-in_err-p.result c.from_residual-in_err-p.ensures.1)
-    (c.loop.invariant.are _ (regions.bare-bad (omega arith) (found _ _ c.in_ok-inner.ensures.value) d.0 d.1 c.in_err-p.ensures.reads))
-
-pub bare_clauses-loop-preserved : goal.bare_clauses-loop-preserved
-bare_clauses-loop-preserved t c =
-    let d = rw (found _ _ c.in_ok-inside.ensures.value) at c.deeper.ensures in
-    let w = rw d.1.bytes at c.in_ok-p.ensures.within in
-    record {
-      later = omega (arith, w.0);
-      inside = w.1;
-      are = λ r t. c.loop.invariant.are r (regions.bare-on (omega arith) (found _ _ c.in_ok-inner.ensures.value) d.0 d.1 c.in_ok-p.ensures.reads w.0 (omega arith) r t);
-    }
-
-pub bare_clauses-returns-clause-reads : goal.bare_clauses-returns-clause-reads
-bare_clauses-returns-clause-reads t c = c.loop.invariant.are _ (regions.bare-none (omega arith))
+use Rattle.checker.proofs.statements.+walk.Goals.{bare_clauses-else-gains-via-else-gains, bare_clauses-else-gains-via-then-gains+else-env-eq32}
 
 pub clauses-overflow_add-list : goal.clauses-overflow_add-list
 clauses-overflow_add-list t c = omega (arith, clauses.signature-inside c.requires.signature, c.args.region.now.short)
@@ -65,62 +35,6 @@ clauses-returns-in_err-length_field-clause-reads t c =
     rw (passed _ c.from_residual.result c.from_residual.ensures.1)
     (c.loop-symbol.invariant.are _ (clauses.named-symbol (omega arith) c.in_err-length_field.ensures.reads))
 
--- the list of the next symbol is inside the image
-next-list : {image : List ℕ} {list symbol many : ℕ} → symbol < many → ∥ clauses.ListsFrom image list (many - symbol) ∥₁ → list + 1 + 2 * get_or image list 0 ≤ length image
-next-list l = clauses.lists-inside (omega arith)
-
-pub clauses-parameters-types-requires : goal.clauses-parameters-types-requires
-clauses-parameters-types-requires t c = next-list c.loop-symbol-test.true c.loop-symbol.invariant.lists
-
-pub clauses-returns-in_err-front-clause-reads : goal.clauses-returns-in_err-front-clause-reads
-clauses-returns-in_err-front-clause-reads t c =
-    let m = lacking _ _ _ c.in_err-front.ensures.value c.at.ensures c.from_residual-in_err-front.result c.from_residual-in_err-front.ensures.1 in
-    rw m.1 (c.loop-symbol.invariant.are _ (clauses.named-wide (omega arith) c.in_ok-length_field.length_field c.in_ok-length_field.ensures.reads
-    (clauses.starts-wide c.parameters-types.ensures.types m.0 c.with_types.ensures)))
-
-pub clauses-returns-in_err-inner-clause-reads : goal.clauses-returns-in_err-inner-clause-reads
-clauses-returns-in_err-inner-clause-reads t c =
-    let m = lacking _ _ _ c.in_err-inner.ensures.value c.at-in-loop-symbol.ensures c.from_residual-in_err-inner.result c.from_residual-in_err-inner.ensures.1 in
-    rw m.1 (c.loop-symbol.invariant.are _ (clauses.named-wide (omega arith) c.in_ok-length_field.length_field c.in_ok-length_field.ensures.reads
-    (clauses.starts-whole c.parameters-types.ensures.types (found _ _ c.in_ok-front.ensures.value) c.with_types.ensures m.0 c.with_entries.ensures)))
-
-pub clauses-returns-in_err-inside-clause-reads : goal.clauses-returns-in_err-inside-clause-reads
-clauses-returns-in_err-inside-clause-reads t c =
-    let m = lacking _ _ _ c.in_err-inside.ensures.value c.at-in-loop-symbol-2.ensures c.from_residual-in_err-inside.result c.from_residual-in_err-inside.ensures.1 in
-    rw m.1 (c.loop-symbol.invariant.are _ (clauses.named-deep (omega arith) c.in_ok-length_field.length_field c.in_ok-length_field.ensures.reads
-    (clauses.starts-whole c.parameters-types.ensures.types (found _ _ c.in_ok-front.ensures.value) c.with_types.ensures (found _ _ c.in_ok-inner.ensures.value) c.with_entries.ensures)
-    (rw m.0 at c.deeper.ensures)))
-
-pub clauses-returns-in_err-p-clause-reads : goal.clauses-returns-in_err-p-clause-reads
-clauses-returns-in_err-p-clause-reads t c =
-    let d = rw (found _ _ c.in_ok-inside.ensures.value) at c.deeper.ensures in
-    rw (passed _ c.from_residual-in_err-p.result c.from_residual-in_err-p.ensures.1)
-    (c.loop-symbol.invariant.are _ (clauses.named-bad (omega arith) c.in_ok-length_field.length_field c.in_ok-length_field.ensures.reads
-    (clauses.starts-whole c.parameters-types.ensures.types (found _ _ c.in_ok-front.ensures.value) c.with_types.ensures (found _ _ c.in_ok-inner.ensures.value) c.with_entries.ensures)
-    d.0 d.1 (omega (arith, c.in_ok-length_field.ensures.next.0)) c.in_err-p.ensures.reads))
-
-pub clauses-overflow_add-list-in-loop-symbol : goal.clauses-overflow_add-list-in-loop-symbol
-clauses-overflow_add-list-in-loop-symbol t c = omega (arith, next-list c.loop-symbol-test.true c.loop-symbol.invariant.lists, c.args.region.now.short)
-
-pub clauses-overflow_add-list-in-loop-symbol-2 : goal.clauses-overflow_add-list-in-loop-symbol-2
-clauses-overflow_add-list-in-loop-symbol-2 t c = omega (arith, next-list c.loop-symbol-test.true c.loop-symbol.invariant.lists, c.args.region.now.short, c.parameters-types.ensures.length)
-
-pub clauses-loop-symbol-preserved : goal.clauses-loop-symbol-preserved
-clauses-loop-symbol-preserved t c =
-    let d = rw (found _ _ c.in_ok-inside.ensures.value) at c.deeper.ensures in
-    let w = rw d.1.bytes at c.in_ok-p.ensures.within in
-    let later : c.loop-symbol.p ≤ c.in_ok-length_field.length_field = omega (arith, c.in_ok-length_field.ensures.next.0) in
-    let less : get_or c.args.region.now.image.now c.args.sig 0 - (c.loop-symbol.symbol + 1) ≡ get_or c.args.region.now.image.now c.args.sig 0 - c.loop-symbol.symbol - 1 = omega arith in
-    record {
-      later = omega (arith, w.0, later);
-      inside = w.1;
-      lists = rw less (∥∥₁_map c.loop-symbol.invariant.lists (clauses.lists-next (omega arith) c.parameters-types.ensures.types));
-      are = λ r t.
-          c.loop-symbol.invariant.are r (clauses.named-on (omega arith) c.in_ok-length_field.length_field c.in_ok-length_field.ensures.reads
-          (clauses.starts-whole c.parameters-types.ensures.types (found _ _ c.in_ok-front.ensures.value) c.with_types.ensures (found _ _ c.in_ok-inner.ensures.value) c.with_entries.ensures)
-          d.0 d.1 later c.in_ok-p.ensures.reads (omega (arith, w.0, later)) less c.parameters-types.ensures.types r t);
-    }
-
 pub clauses-returns-clause-reads : goal.clauses-returns-clause-reads
 clauses-returns-clause-reads t c = c.loop-symbol.invariant.are _ (clauses.named_none (omega arith))
 
@@ -132,37 +46,25 @@ extern_-returns-in_err-first-clause-reads t c =
     rw (passed _ c.from_residual-in_err-first.result c.from_residual-in_err-first.ensures.1)
     (forms.extern-argument c.in_ok-code.ensures c.arguments.ensures c.in_err-first.field-0.0 c.in_err-first.ensures.reads)
 
--- the environment of extern's clauses
-gained : {t : ℕ} (c : goal.extern_-After-bare_clauses t) → forms.Gained c.args.env.now c.in_ok-code.code c.if-gains.inner
-gained c = elim c.if-gains.branch [
-  | extern_-then-gains w ↦ rw w.inner-is (forms.gained-one (sym w.if-gains.true ∙ c.gains.ensures) (λ Δ h. w.push-inner.ensures Δ ext h w.ext.ensures))
-  | extern_-else-gains w ↦ rw w.inner-is (forms.gained-none (sym w.if-gains.false ∙ c.gains.ensures))
-]
-
-pub extern_-returns-clause-reads : goal.extern_-returns-clause-reads
-extern_-returns-clause-reads t c =
-    forms.extern-goes c.in_ok-code.ensures c.arguments.ensures c.in_ok-first.first c.in_ok-first.ensures.reads c.in_ok-first.ensures.within.0
-    (gained c) c.clauses.ensures c.bare_clauses.ensures.reads
-
 pub in_region-returns-then-bytes-at-lt2-clause-reads : goal.in_region-returns-then-bytes-at-lt2-clause-reads
-in_region-returns-then-bytes-at-lt2-clause-reads t c = rw c.at.ensures (regions.region-none _ _ _ (omega arith))
+in_region-returns-then-bytes-at-lt2-clause-reads t c = rw c.at.ensures (regions.region-none _ _ _ _ (omega arith))
 
 pub in_region-returns-then-bytes-start-clause-reads : goal.in_region-returns-then-bytes-start-clause-reads
-in_region-returns-then-bytes-start-clause-reads t c = rw c.at-then-bytes-start.ensures (regions.region-long _ _ _ (omega arith) _ c.from_be_bytes-size.ensures (omega arith))
+in_region-returns-then-bytes-start-clause-reads t c = rw c.at-then-bytes-start.ensures (regions.region-long _ _ _ _ (omega arith) _ c.from_be_bytes-size.ensures (omega arith))
 
 pub in_region-returns-in_err-stopped-clause-reads : goal.in_region-returns-in_err-stopped-clause-reads
 in_region-returns-in_err-stopped-clause-reads t c =
-    rw (passed _ c.from_residual.result c.from_residual.ensures.1) (regions.region-bad _ _ _ (omega arith) _ c.from_be_bytes-size.ensures (omega arith) c.up_to.ensures c.in_err-stopped.ensures.reads)
+    rw (passed _ c.from_residual.result c.from_residual.ensures.1) (regions.region-bad _ _ _ _ (omega arith) _ c.from_be_bytes-size.ensures (omega arith) c.up_to.ensures c.in_err-stopped.ensures.reads)
 
 pub in_region-returns-then-stopped-end-clause-reads : goal.in_region-returns-then-stopped-end-clause-reads
 in_region-returns-then-stopped-end-clause-reads t c =
     let w = rw c.up_to.ensures.bytes at c.in_ok-stopped.ensures.within in
     let n = length-take-le (c.args.at + 2 + c.from_be_bytes-size.result) c.args.region.now.bytes.now in
-    rw c.at-then-stopped-end.ensures (regions.region-spare _ _ _ (omega arith) _ c.from_be_bytes-size.ensures (omega arith) c.up_to.ensures c.in_ok-stopped.ensures.reads
+    rw c.at-then-stopped-end.ensures (regions.region-spare _ _ _ _ (omega arith) _ c.from_be_bytes-size.ensures (omega arith) c.up_to.ensures c.in_ok-stopped.ensures.reads
     (omega (arith, w.1, n)) c.if-stopped-end.true)
 
 pub in_region-returns-clause-reads : goal.in_region-returns-clause-reads
-in_region-returns-clause-reads t c = regions.region-fills _ _ _ (omega arith) _ c.from_be_bytes-size.ensures (omega arith) c.up_to.ensures c.in_ok-stopped.ensures.reads c.if-stopped-end.false
+in_region-returns-clause-reads t c = regions.region-fills _ _ _ _ (omega arith) _ c.from_be_bytes-size.ensures (omega arith) c.up_to.ensures c.in_ok-stopped.ensures.reads c.if-stopped-end.false
 
 pub new_-returns-in_err-sig : goal.new_-returns-in_err-sig
 new_-returns-in_err-sig t c = rw (passed _ c.from_residual.result c.from_residual.ensures.1) (forms.new-refused c.in_err-sig.ensures)
@@ -170,68 +72,20 @@ new_-returns-in_err-sig t c = rw (passed _ c.from_residual.result c.from_residua
 pub new_-clauses-requires : goal.new_-clauses-requires
 new_-clauses-requires t c = let f = forms.new-facts c.in_ok-sig.ensures in (omega (arith, f.0), (f.0, f.2))
 
-pub new_-returns-in_err-on : goal.new_-returns-in_err-on
-new_-returns-in_err-on t c =
-    rw (passed _ c.from_residual-in_err-on.result c.from_residual-in_err-on.ensures.1)
-    (forms.new-clause c.in_ok-sig.ensures c.empty.ensures (forms.back-held c.args.env.now c.in_ok-sig.captures c.entries.ensures) c.in_err-on.ensures.reads)
-
-pub new_-returns-in_err-next : goal.new_-returns-in_err-next
-new_-returns-in_err-next t c =
-    let m = lacking _ _ _ c.in_err-next.ensures.value c.at.ensures c.from_residual-in_err-next.result c.from_residual-in_err-next.ensures.1 in
-    rw m.1 (forms.new-wide c.in_ok-sig.ensures c.empty.ensures (forms.back-held c.args.env.now c.in_ok-sig.captures c.entries.ensures) c.in_ok-on.ensures.reads
-    (forms.pushed (forms.new-facts c.in_ok-sig.ensures).1 c.first.result c.first.ensures.types c.first.ensures.width _ c.cns.ensures (rw m.0 at c.push.ensures)))
-
-pub new_-returns : goal.new_-returns
-new_-returns t c =
-    forms.new-on c.in_ok-sig.ensures c.empty.ensures (forms.back-held c.args.env.now c.in_ok-sig.captures c.entries.ensures)
-    c.in_ok-on.ensures.reads c.in_ok-on.ensures.within.0 c.in_ok-on.ensures.within.1
-    (forms.pushed (forms.new-facts c.in_ok-sig.ensures).1 c.first.result c.first.ensures.types c.first.ensures.width _ c.cns.ensures (rw (found _ _ c.in_ok-next.ensures.value) at c.push.ensures))
-
 pub statement-returns-in_err-form-clause-reads : goal.statement-returns-in_err-form-clause-reads
 statement-returns-in_err-form-clause-reads t c = rw (passed _ c.from_residual.result c.from_residual.ensures.1) (c.loop-e.invariant.is _ (statements.form-refused c.in_err-form.ensures))
 
 pub statement-returns-in-Jump-clause-reads : goal.statement-returns-in-Jump-clause-reads
 statement-returns-in-Jump-clause-reads t c = c.loop-e.invariant.is _ (statements.form-ends Jump c.in_ok-form.ensures c.in-Jump.is c.jump.ensures.reads)
 
-pub statement-returns-in_err-substitute-in-Substitute-clause-reads : goal.statement-returns-in_err-substitute-in-Substitute-clause-reads
-statement-returns-in_err-substitute-in-Substitute-clause-reads t c =
-    rw (passed _ c.from_residual-in_err-substitute-in-Substitute.result c.from_residual-in_err-substitute-in-Substitute.ensures.1)
-    (c.loop-e.invariant.is _ (statements.form-stops Substitute c.in_ok-form.ensures c.in-Substitute.is c.in_err-substitute-in-Substitute.ensures))
-
 pub statement-returns-in-Extern-clause-reads : goal.statement-returns-in-Extern-clause-reads
 statement-returns-in-Extern-clause-reads t c = c.loop-e.invariant.is _ (statements.form-ends Extern c.in_ok-form.ensures c.in-Extern.is c.extern_.ensures.reads)
-
-pub statement-returns-in_err-let_-in-Let-clause-reads : goal.statement-returns-in_err-let_-in-Let-clause-reads
-statement-returns-in_err-let_-in-Let-clause-reads t c =
-    rw (passed _ c.from_residual-in_err-let_-in-Let.result c.from_residual-in_err-let_-in-Let.ensures.1)
-    (c.loop-e.invariant.is _ (statements.form-stops Let c.in_ok-form.ensures c.in-Let.is c.in_err-let_-in-Let.ensures))
-
-pub statement-returns-in_err-on-in-New-clause-reads : goal.statement-returns-in_err-on-in-New-clause-reads
-statement-returns-in_err-on-in-New-clause-reads t c =
-    rw (passed _ c.from_residual-in_err-on-in-New.result c.from_residual-in_err-on-in-New.ensures.1)
-    (c.loop-e.invariant.is _ (statements.form-stops New c.in_ok-form.ensures c.in-New.is c.in_err-on-in-New.ensures))
 
 pub statement-returns-in-Switch-clause-reads : goal.statement-returns-in-Switch-clause-reads
 statement-returns-in-Switch-clause-reads t c = c.loop-e.invariant.is _ (statements.form-ends Switch c.in_ok-form.ensures c.in-Switch.is c.switch_.ensures.reads)
 
 pub statement-returns-in-Invoke-clause-reads : goal.statement-returns-in-Invoke-clause-reads
 statement-returns-in-Invoke-clause-reads t c = c.loop-e.invariant.is _ (statements.form-ends Invoke c.in_ok-form.ensures c.in-Invoke.is c.invoke.ensures.reads)
-
--- where the walk goes on behind a form with a remainder
-onward : {t : ℕ} (c : goal.statement-After-next-1 t) → statements.OnwardIs c.args.region.now c.loop-e.e c.loop-e.p c.match-branch-2.on
-onward c = elim c.match-branch-2.branch [
-  | statement-in-Substitute+in_ok-substitute-in-Substitute w ↦ rw w.on-is (statements.form-goes Substitute c.in_ok-form.ensures w.in-Substitute.is w.in_ok-substitute-in-Substitute.ensures)
-  | statement-in-Let+in_ok-let_-in-Let w ↦ rw w.on-is (statements.form-goes Let c.in_ok-form.ensures w.in-Let.is w.in_ok-let_-in-Let.ensures)
-  | statement-in-New+in_ok-on-in-New w ↦ rw w.on-is (statements.form-goes New c.in_ok-form.ensures w.in-New.is w.in_ok-on-in-New.ensures)
-]
-
-pub statement-loop-e-smaller : goal.statement-loop-e-smaller
-statement-loop-e-smaller t c = let o = onward c in omega (arith, o.later, o.inside)
-
-pub statement-loop-e-preserved : goal.statement-loop-e-preserved
-statement-loop-e-preserved t c =
-    let o = onward c in
-    record { later = omega (arith, o.later, c.loop-e.invariant.later); inside = o.inside; is = λ r t. c.loop-e.invariant.is r (o.is r t) }
 
 pub switch_-returns-in_err-sig-clause-reads : goal.switch_-returns-in_err-sig-clause-reads
 switch_-returns-in_err-sig-clause-reads t c = rw (passed _ c.from_residual.result c.from_residual.ensures.1) (forms.switch-refused c.in_err-sig.ensures)
@@ -243,3 +97,133 @@ pub switch_-returns-clause-reads : goal.switch_-returns-clause-reads
 switch_-returns-clause-reads t c =
     let f = forms.switch-facts c.in_ok-sig.ensures in
     forms.switch-on c.in_ok-sig.ensures (forms.front-held c.args.env.now c.first.result 1 f.1 c.first.ensures.types c.first.ensures.width) c.clauses.ensures.reads
+
+pub bare_clauses-returns-then-env-eq32-clause-reads : goal.bare_clauses-returns-then-env-eq32-clause-reads
+bare_clauses-returns-then-env-eq32-clause-reads t c = rw c.at.ensures (c.loop.invariant.are _ (regions.bare-wide (omega arith) c.if-gains.true c.if-env-eq32.true))
+
+-- nothing is gained, or there is a place for it
+place : {t : ℕ} (c : goal.bare_clauses-After-at-then-region-eq48 t) → c.args.gains ≡ true → c.args.env.now.width < 32
+place c = elim c.else-gains.branch [
+  | bare_clauses-else-gains-via-else-gains w ↦ λ e. regions.nothing-gained w.if-gains.false e
+  | bare_clauses-else-gains-via-then-gains+else-env-eq32 w ↦ λ e. omega (arith, w.if-env-eq32.false, c.args.env.now.narrow)
+]
+
+pub bare_clauses-returns-then-region-eq48-clause-reads : goal.bare_clauses-returns-then-region-eq48-clause-reads
+bare_clauses-returns-then-region-eq48-clause-reads t c =
+    rw c.at-then-region-eq48.ensures (c.loop.invariant.are _ (regions.bare-deep (omega arith) (place c) c.if-region-eq48.true))
+
+pub bare_clauses-returns-in_err-p-clause-reads : goal.bare_clauses-returns-in_err-p-clause-reads
+bare_clauses-returns-in_err-p-clause-reads t c =
+    rw (passed _ c.from_residual.result c.from_residual.ensures.1)
+    (c.loop.invariant.are _ (regions.bare-bad (omega arith) (omega (arith, c.args.region.now.shallow)) c.gaining.ensures c.in_err-p.ensures.reads))
+
+pub bare_clauses-loop-preserved : goal.bare_clauses-loop-preserved
+bare_clauses-loop-preserved t c =
+    let w = c.in_ok-p.ensures.within in
+    record {
+      later = omega (arith, w.0);
+      inside = w.1;
+      are = λ r t. c.loop.invariant.are r (regions.bare-on (omega arith) (omega (arith, c.args.region.now.shallow)) c.gaining.ensures c.in_ok-p.ensures.reads w.0 (omega arith) r t);
+    }
+
+pub bare_clauses-returns-clause-reads : goal.bare_clauses-returns-clause-reads
+bare_clauses-returns-clause-reads t c = c.loop.invariant.are _ (regions.bare-none (omega arith))
+
+-- the list of the next symbol is inside the image
+next-list : {image : List ℕ} {list symbol many : ℕ} → symbol < many → ∥ clauses.ListsFrom image list (many - symbol) ∥₁ → list + 1 + 2 * get_or image list 0 ≤ length image
+next-list l = clauses.lists-inside (omega arith)
+
+pub clauses-parameters-requires : goal.clauses-parameters-requires
+clauses-parameters-requires t c = next-list c.loop-symbol-test.true c.loop-symbol.invariant.lists
+
+pub clauses-returns-then-before-fields-gt32-clause-reads : goal.clauses-returns-then-before-fields-gt32-clause-reads
+clauses-returns-then-before-fields-gt32-clause-reads t c =
+    rw c.at.ensures (c.loop-symbol.invariant.are _ (clauses.named-wide (omega arith) c.in_ok-length_field.length_field c.in_ok-length_field.ensures.reads
+    (clauses.fields-at c.parameters.ensures.types c.as_chunks.ensures.front) c.if-before-fields-gt32.true))
+
+pub clauses-returns-then-region-eq48-clause-reads : goal.clauses-returns-then-region-eq48-clause-reads
+clauses-returns-then-region-eq48-clause-reads t c =
+    rw c.at-then-region-eq48.ensures (c.loop-symbol.invariant.are _ (clauses.named-deep (omega arith) c.in_ok-length_field.length_field c.in_ok-length_field.ensures.reads
+    (clauses.fields-at c.parameters.ensures.types c.as_chunks.ensures.front) c.if-before-fields-gt32.false c.if-region-eq48.true))
+
+pub clauses-returns-in_err-p-clause-reads : goal.clauses-returns-in_err-p-clause-reads
+clauses-returns-in_err-p-clause-reads t c =
+    rw (passed _ c.from_residual-in_err-p.result c.from_residual-in_err-p.ensures.1)
+    (c.loop-symbol.invariant.are _ (clauses.named-bad (omega arith) c.in_ok-length_field.length_field c.in_ok-length_field.ensures.reads
+    (clauses.starts-whole (clauses.fields-at c.parameters.ensures.types c.as_chunks.ensures.front) c.followed_by-inner.ensures)
+    (omega (arith, c.args.region.now.shallow)) (omega (arith, c.in_ok-length_field.ensures.next.0)) c.in_err-p.ensures.reads))
+
+pub clauses-overflow_add-list-in-loop-symbol : goal.clauses-overflow_add-list-in-loop-symbol
+clauses-overflow_add-list-in-loop-symbol t c = omega (arith, next-list c.loop-symbol-test.true c.loop-symbol.invariant.lists, c.args.region.now.short)
+
+pub clauses-overflow_add-list-in-loop-symbol-2 : goal.clauses-overflow_add-list-in-loop-symbol-2
+clauses-overflow_add-list-in-loop-symbol-2 t c = omega (
+    arith,
+    clauses.fields-inside (omega arith) c.loop-symbol.invariant.lists (clauses.fields-at c.parameters.ensures.types c.as_chunks.ensures.front),
+    c.args.region.now.short,
+)
+
+pub clauses-loop-symbol-preserved : goal.clauses-loop-symbol-preserved
+clauses-loop-symbol-preserved t c =
+    let w = c.in_ok-p.ensures.within in
+    let later : c.loop-symbol.p ≤ c.in_ok-length_field.length_field = omega (arith, c.in_ok-length_field.ensures.next.0) in
+    let less : get_or c.args.region.now.image.now c.args.sig 0 - (c.loop-symbol.symbol + 1) ≡ get_or c.args.region.now.image.now c.args.sig 0 - c.loop-symbol.symbol - 1 = omega arith in
+    let fields = clauses.fields-at c.parameters.ensures.types c.as_chunks.ensures.front in
+    record {
+      later = omega (arith, w.0, later);
+      inside = w.1;
+      lists = rw less (∥∥₁_map c.loop-symbol.invariant.lists (clauses.lists-next (omega arith) fields));
+      are = λ r t.
+          c.loop-symbol.invariant.are r (clauses.named-on (omega arith) c.in_ok-length_field.length_field c.in_ok-length_field.ensures.reads
+          (clauses.starts-whole fields c.followed_by-inner.ensures)
+          (omega (arith, c.args.region.now.shallow)) later c.in_ok-p.ensures.reads (omega (arith, w.0, later)) less fields r t);
+    }
+
+pub extern_-returns-clause-reads : goal.extern_-returns-clause-reads
+extern_-returns-clause-reads t c =
+    forms.extern-goes c.in_ok-code.ensures c.arguments.ensures c.in_ok-first.first c.in_ok-first.ensures.reads c.in_ok-first.ensures.within.0
+    c.gains.ensures c.clauses.ensures c.bare_clauses.ensures.reads
+
+pub new_-returns-in_err-on : goal.new_-returns-in_err-on
+new_-returns-in_err-on t c =
+    rw (passed _ c.from_residual-in_err-on.result c.from_residual-in_err-on.ensures.1)
+    (forms.new-clause c.in_ok-sig.ensures c.empty.ensures (forms.back-held c.args.env.now c.in_ok-sig.captures c.entries.ensures) c.in_err-on.ensures.reads)
+
+pub new_-returns-then-kept-eq32 : goal.new_-returns-then-kept-eq32
+new_-returns-then-kept-eq32 t c =
+    rw c.at.ensures (forms.new-wide c.in_ok-sig.ensures c.empty.ensures (forms.back-held c.args.env.now c.in_ok-sig.captures c.entries.ensures) c.in_ok-on.ensures.reads c.if-kept-eq32.true)
+
+pub new_-returns : goal.new_-returns
+new_-returns t c =
+    forms.new-on c.in_ok-sig.ensures c.empty.ensures (forms.back-held c.args.env.now c.in_ok-sig.captures c.entries.ensures)
+    c.in_ok-on.ensures.reads c.in_ok-on.ensures.within.0 c.in_ok-on.ensures.within.1 (λ Δ t h e. c.renew.ensures Δ t h (e ∙ c.cns.ensures))
+
+pub statement-returns-in_err-p-in-Substitute-clause-reads : goal.statement-returns-in_err-p-in-Substitute-clause-reads
+statement-returns-in_err-p-in-Substitute-clause-reads t c =
+    rw (passed _ c.from_residual-in_err-p-in-Substitute.result c.from_residual-in_err-p-in-Substitute.ensures.1)
+    (c.loop-e.invariant.is _ (statements.form-stops Substitute c.in_ok-form.ensures c.in-Substitute.is c.in_err-p-in-Substitute.ensures))
+
+pub statement-returns-in_err-p-in-Let-clause-reads : goal.statement-returns-in_err-p-in-Let-clause-reads
+statement-returns-in_err-p-in-Let-clause-reads t c =
+    rw (passed _ c.from_residual-in_err-p-in-Let.result c.from_residual-in_err-p-in-Let.ensures.1)
+    (c.loop-e.invariant.is _ (statements.form-stops Let c.in_ok-form.ensures c.in-Let.is c.in_err-p-in-Let.ensures))
+
+pub statement-returns-in_err-p-in-New-clause-reads : goal.statement-returns-in_err-p-in-New-clause-reads
+statement-returns-in_err-p-in-New-clause-reads t c =
+    rw (passed _ c.from_residual-in_err-p-in-New.result c.from_residual-in_err-p-in-New.ensures.1)
+    (c.loop-e.invariant.is _ (statements.form-stops New c.in_ok-form.ensures c.in-New.is c.in_err-p-in-New.ensures))
+
+pub statement-loop-e-preserved-in_ok-p-in-Substitute : goal.statement-loop-e-preserved-in_ok-p-in-Substitute
+statement-loop-e-preserved-in_ok-p-in-Substitute t c =
+    let o = statements.form-goes Substitute c.in_ok-form.ensures c.in-Substitute.is c.in_ok-p-in-Substitute.ensures in
+    record { later = omega (arith, o.later, c.loop-e.invariant.later); inside = o.inside; is = λ r t. c.loop-e.invariant.is r (o.is r t) }
+
+pub statement-loop-e-preserved-in_ok-p-in-Let : goal.statement-loop-e-preserved-in_ok-p-in-Let
+statement-loop-e-preserved-in_ok-p-in-Let t c =
+    let o = statements.form-goes Let c.in_ok-form.ensures c.in-Let.is c.in_ok-p-in-Let.ensures in
+    record { later = omega (arith, o.later, c.loop-e.invariant.later); inside = o.inside; is = λ r t. c.loop-e.invariant.is r (o.is r t) }
+
+pub statement-loop-e-preserved : goal.statement-loop-e-preserved
+statement-loop-e-preserved t c =
+    let o = statements.form-goes New c.in_ok-form.ensures c.in-New.is c.in_ok-p-in-New.ensures in
+    record { later = omega (arith, o.later, c.loop-e.invariant.later); inside = o.inside; is = λ r t. c.loop-e.invariant.is r (o.is r t) }

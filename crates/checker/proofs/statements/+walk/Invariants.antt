@@ -41,7 +41,7 @@ abbrev pub invariant-bare_clauses-loop : goal.invariant-bare_clauses-loop
 invariant-bare_clauses-loop l = record {
   later : l.at ≤ l.p;
   inside : l.p ≤ length l.region.bytes.now;
-  are : (r : Walk) → BareAre l.region l.env (l.many - l.counter) l.p r → BareAre l.region l.env l.many l.at r;
+  are : (r : Walk) → BareAre l.region l.env l.gains (l.many - l.counter) l.p r → BareAre l.region l.env l.gains l.many l.at r;
 }
 
 abbrev pub invariant-clauses-loop-symbol : goal.invariant-clauses-loop-symbol
