@@ -4,6 +4,7 @@ use mathlib.Core.Path.{◌≡◌, refl, ap, sym, ◌∙◌}
 use mathlib.Core.List.{List, [], ◌∷◌, map}
 use mathlib.Core.Option.{some}
 use native.Mathlib.Omega.{arith}
+use native.Mathlib.Nat.{sub-zero}
 use lib.ListN.{length, get_or, get_elem?, take, drop, length-map}
 use lib.Seq.{get_or-drop}
 use Rattle.std.proofs.lemmas.List.{length-take}
@@ -14,7 +15,10 @@ use Rattle.exactness.proofs.Readers.{then, known-then}
 use Rattle.checker.specs.declared.faults.Fault.{Fault}
 use Rattle.checker.specs.Shown.{Walk, forget, shown}
 use Rattle.checker.specs.Entries.{Below, Positions}
-use Rattle.checker.specs.Readers.{NameIs, Repeated, done, fails, goes_on}
+use Rattle.checker.specs.declared.faults.Refusal.TheVariants.{Short, Unnamed}
+use Rattle.checker.specs.Faults.{at as fault-at}
+use Rattle.checker.specs.Readers.{NameIs, is_named, is_ended, is_unknown, Repeated, done, fails, goes_on}
+use Rattle.checker.proofs.Repeats.{none-left, next-fails, next-on}
 use Rattle.checker.proofs.ReaderLaws.{name-on, name-bad, name-value}
 use Rattle.checker.proofs.Lists.{written_at, held_at, part_at}
 use Rattle.checker.proofs.Loops.{forget-after, repeated-times}
@@ -70,6 +74,42 @@ module _ (s : List ℕ) (width : ℕ) (reads : ℕ → Walk → Type 0) (each : 
     ended = λ e g. (ends n at r w e g).0;
     below = λ e g. (ends n at r w e g).1;
   }
+
+-- Positions of a part of the bytes, tested one after another: what answers from there on answers from the start.
+abbrev one-read : List ℕ → ℕ → ℕ → Walk → Type 0
+one-read s width p r = Positions s width p 1 r
+
+pub record Walked (s : List ℕ) (width at count i : ℕ) : Type 0 where
+  pub rest : (r : Walk) → Repeated (one-read s width) (count - i) (at + i) r → Repeated (one-read s width) count at r
+
+module _ {s : List ℕ} {width at count : ℕ} where
+  pub walked-none : Walked s width at count 0
+  walked-none = let z : at + 0 ≡ at = omega arith in record { rest = λ r t. rw (z, sub-zero) at t }
+
+  whole : (i : ℕ) → Walked s width at count i → (r : Walk) → Repeated (one-read s width) (count - i) (at + i) r → Positions s width at count r
+  whole i w r t = positions-all s width (one-read s width) (λ p r b. b) count at r (w.rest r t)
+
+  module _ (i : ℕ) (more : i < count) (w : Walked s width at count i) {there : ℕ} (few : at + there ≤ length s) where
+    -- the byte of the part is that of the whole
+    in-part : i < there → get_or (take there (drop at s)) i 0 ≡ get_or s (at + i) 0
+    in-part h = sym (part_at s (take there (drop at s)) at there 0 refl i h)
+
+    pub walked-more : i < there → get_or (take there (drop at s)) i 0 < width → Walked s width at count (i + 1)
+    walked-more h b =
+        let n : NameIs s width (at + i) (Ok (get_or s (at + i) 0)) = is_named (omega (arith, h, few)) refl (omega (arith, b, in-part h)) in
+        let z : at + i + 1 ≡ at + (i + 1) = omega arith in
+        record { rest = λ r t. w.rest r (next-on (one-read s width) count i (at + i) more (at + i + 1) (position-on n) r (rw z t)) }
+
+    pub walked-unknown : i < there → width ≤ get_or (take there (drop at s)) i 0 → Positions s width at count (Err (fault-at Unnamed (at + i)))
+    walked-unknown h b = whole i w _ (next-fails (one-read s width) count i (at + i) more _ (position-bad (is_unknown (omega (arith, h, few)) (omega (arith, b, in-part h)))))
+
+  pub walked-short : (i : ℕ) → i < count → Walked s width at count i → {end : ℕ} → end ≡ at + i → end ≡ length s → Positions s width at count (Err (fault-at Short end))
+  walked-short i more w e n =
+      let z : at + i ≡ length s = sym e ∙ n in
+      rw e (whole i w _ (next-fails (one-read s width) count i (at + i) more _ (position-bad (is_ended z))))
+
+  pub walked-all : (i : ℕ) → i ≡ count → Walked s width at count i → Positions s width at count (Ok (at + count))
+  walked-all i e w = let z : at + i ≡ at + count = omega arith in rw z at (whole i w _ (none-left (one-read s width) count i (at + i) (omega arith)))
 
 -- positions that were walked over are below the width as a part of the bytes too
 pub positions-part : {s : List ℕ} {width at count e : ℕ} → Positions s width at count (Ok e) → Below (take (e - at) (drop at s)) 0 (length (take (e - at) (drop at s))) width

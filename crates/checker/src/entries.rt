@@ -113,22 +113,22 @@ fn put(types: &mut [[u8; 2]; 32], at: usize, entries: &[[u8; 2]])
 }
 
 // `count` positions from `at` on, each below `width`; of the environment nothing else is needed.
+// Those that are there are a slice, so that only the width is tested at each: `repeat` would test the region's end as often.
 pub(crate) fn positions(s: &[u8], width: usize, at: usize, count: usize) -> Result<usize, Fault>
     requires { at ≤ length s.now }
     ensures within { Within at s.now result }
     ensures positions { Positions s.now width at count result }
 {
-    repeat(s, at, count, |p| position(s, width, p))
-}
-
-// The position at `at`.
-fn position(s: &[u8], width: usize, at: usize) -> Result<usize, Fault>
-    requires { at ≤ length s.now }
-    ensures within { Within at s.now result }
-    ensures positions { Positions s.now width at 1 result }
-{
-    name(s, width, at)?;
-    Ok(at + 1)
+    let there = (s.len() - at).min(count);
+    for (i, position) in s[at..at + there].iter().enumerate() {
+        if width <= *position as usize {
+            return Err(Refusal::Unnamed.at(at + i));
+        }
+    }
+    if there < count {
+        return Err(Refusal::Short.at(at + there));
+    }
+    Ok(at + count)
 }
 
 // The position at `at`, of an entry of the type ext.
