@@ -138,7 +138,12 @@ fn clauses(
 
 // The region of which the length field stands at `at`, so many clauses deep, filled by one statement.
 #[cycle(walk)]
-pub(crate) fn in_region(region: &Region<'_>, env: Env, depth: usize, at: usize) -> Result<usize, Fault>
+pub(crate) fn in_region(
+    region: &Region<'_>,
+    env: Env,
+    depth: usize,
+    at: usize,
+) -> Result<usize, Fault>
     requires inside { at ≤ length region.now.bytes.now }
     requires shallow { depth ≤ 48 }
     ensures within { Within at region.now.bytes.now result }

@@ -158,9 +158,9 @@ clauses-overflow_add-list-in-loop-symbol t c = omega (arith, next-list c.loop-sy
 
 pub clauses-overflow_add-list-in-loop-symbol-2 : goal.clauses-overflow_add-list-in-loop-symbol-2
 clauses-overflow_add-list-in-loop-symbol-2 t c = omega (
-    arith,
-    clauses.fields-inside (omega arith) c.loop-symbol.invariant.lists (clauses.fields-at c.parameters.ensures.types c.as_chunks.ensures.front),
-    c.args.region.now.short,
+  arith,
+  clauses.fields-inside (omega arith) c.loop-symbol.invariant.lists (clauses.fields-at c.parameters.ensures.types c.as_chunks.ensures.front),
+  c.args.region.now.short,
 )
 
 pub clauses-loop-symbol-preserved : goal.clauses-loop-symbol-preserved
