@@ -106,10 +106,7 @@ fn put(types: &mut [[u8; 2]; 32], at: usize, entries: &[[u8; 2]])
     requires { at + length entries.now ≤ 32 }
     ensures { take (at + length entries.now) types.new ≡ take at types.old ++ entries.now }
 {
-    // a loop, not `copy_from_slice`: entries are few, and mostly none
-    for (i, entry) in entries.iter().enumerate() {
-        types[at + i] = *entry;
-    }
+    types[at..at + entries.len()].copy_from_slice(entries);
 }
 
 // `count` positions from `at` on, each below `width`; of the environment nothing else is needed.
