@@ -57,9 +57,9 @@ means-gains Ifz op m = rw m
 means-gains Less op m = rw m
 means-gains Exit op m = rw m
 
-replicate-all : (ps : Environment) (n : ℕ) → All (λ qs. qs ≡ ps) (replicate n ps)
-replicate-all ps zero = tt
-replicate-all ps (suc n) = (refl, replicate-all ps n)
+replicate-all : (Γ ps Δ : Environment) (n : ℕ) → Γ ++ ps ++ [] ≡ Δ → All (λ ps. Γ ++ ps ++ [] ≡ Δ) (replicate n ps)
+replicate-all Γ ps Δ zero e = tt
+replicate-all Γ ps Δ (suc n) e = (e, replicate-all Γ ps Δ n e)
 
 module _ {g : Region} {env : Env} {at : ℕ} where
   pub extern-unknown : {e : Fault} → OperationIs g.bytes.now (at + 1) (Err e) → EndsIs an_extern g env at (Err e)
@@ -83,7 +83,8 @@ module _ {g : Region} {env : Env} {at : ℕ} where
       is = λ Σ Θ Δ f a k w.
           with' (shown-on g.bytes.now (times (length (arguments op)) (argument Δ) next (drop next g.bytes.now)) (Ok p) p (rw (means-arguments o op m, ← z) (t Δ k)) refl) λ u.
           rw (r, u.1, means-gains o op m, forget-after _ (λ cs. extern op u.0 cs))
-          (y.is Σ Θ Δ _ 0 f a k (rw v (replicate-all (gained (gaining o)) (clause_count o))) (length-replicate (clause_count o) (gained (gaining o)) ∙ rw c) (omega arith));
+          (y.is Σ Θ Δ Δ _ 0 f a (rw v (replicate-all Δ (gained (gaining o)) (Δ ++ gained (gaining o)) (clause_count o) (append-nil (Δ ++ gained (gaining o)))))
+          (length-replicate (clause_count o) (gained (gaining o)) ∙ rw c) k (omega arith));
     }
 
 -- ---- parts of an environment

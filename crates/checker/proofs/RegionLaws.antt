@@ -1,7 +1,7 @@
 -- Regions and bare clauses, in each case.
 use Prim.Native.Nat.{ℕ, suc, ◌+◌, ◌-◌, ◌*◌, ◌≤◌, ◌<◌}
 use mathlib.Core.Path.{◌≡◌, refl, ap, sym, ◌∙◌}
-use mathlib.Core.List.{List, [], ◌∷◌, ◌++◌, append-nil}
+use mathlib.Core.List.{List, [], ◌∷◌, ◌++◌}
 use mathlib.Core.Bool.{Bool, true, false}
 use native.Mathlib.Nat.{zero-add}
 use native.Mathlib.Numerals.{add-one}
@@ -128,7 +128,7 @@ gained-fits env gains place Γ h = omega (arith, length-append Γ (gained gains)
 module _ {g : Region} {env : Env} {gains : Bool} where
   pub bare-none : {left p : ℕ} → left ≡ 0 → BareAre g env gains left p (Ok p)
   unfolding shown
-  bare-none {left} {p} z = record { is = λ Σ Θ Γ S i f a h b l k. go Σ Θ Γ i S f (l ∙ z) }
+  bare-none {left} {p} z = record { is = λ Σ Θ Γ Δ S i f a b l h k. go Σ Θ Γ i S f (l ∙ z) }
     where
       go : (Σ : List Signature) (Θ : List Environment) (Γ : Environment) (i : ℕ) (S : Signature) (f : ℕ) → length S ≡ 0
           → forget (clauses Σ Θ (statement Σ Θ f) bare g.depth Γ [] i S p (drop p g.bytes.now)) ≡ got tt p (drop p g.bytes.now)
@@ -138,50 +138,50 @@ module _ {g : Region} {env : Env} {gains : Bool} where
   module _ {left p : ℕ} (some : 0 < left) where
     -- what holds of the first of some clauses, whatever follows
     first-bare : (r : Walk)
-        → ((Σ : List Signature) (Θ : List Environment) (Γ ps : Environment) (S : Signature) (i f : ℕ) → Heads g Σ Θ
-        → Held env Γ → Γ ++ ps ++ [] ≡ Γ ++ gained gains → All (λ ps. ps ≡ gained gains) S → length S ≡ left - 1 → length g.bytes.now - p ≤ f
+        → ((Σ : List Signature) (Θ : List Environment) (Γ Δ ps : Environment) (S : Signature) (i f : ℕ) → Heads g Σ Θ
+        → Γ ++ ps ++ [] ≡ Δ ++ gained gains → All (λ ps. Γ ++ ps ++ [] ≡ Δ ++ gained gains) S → length S ≡ left - 1 → Held env Δ → length g.bytes.now - p ≤ f
         → forget (clauses Σ Θ (statement Σ Θ f) bare g.depth Γ [] i (ps ∷ S) p (drop p g.bytes.now)) ≡ shown g.bytes.now r)
         → BareAre g env gains left p r
-    first-bare r t = record { is = λ Σ Θ Γ S i f a h b l k. go Σ Θ Γ S i f a h b l k }
+    first-bare r t = record { is = λ Σ Θ Γ Δ S i f a b l h k. go Σ Θ Γ Δ S i f a b l h k }
       where
-        go : (Σ : List Signature) (Θ : List Environment) (Γ : Environment) (S : Signature) (i f : ℕ) → Heads g Σ Θ
-            → Held env Γ → All (λ ps. ps ≡ gained gains) S → length S ≡ left → length g.bytes.now - p ≤ f
+        go : (Σ : List Signature) (Θ : List Environment) (Γ Δ : Environment) (S : Signature) (i f : ℕ) → Heads g Σ Θ
+            → All (λ ps. Γ ++ ps ++ [] ≡ Δ ++ gained gains) S → length S ≡ left → Held env Δ → length g.bytes.now - p ≤ f
             → forget (clauses Σ Θ (statement Σ Θ f) bare g.depth Γ [] i S p (drop p g.bytes.now)) ≡ shown g.bytes.now r
-        go Σ Θ Γ [] i f a h b l k = absurd (omega arith)
-        go Σ Θ Γ (ps ∷ S) i f a h b l k = t Σ Θ Γ ps S i f a h (rw (b.0, append-nil (Γ ++ gained gains))) b.1 (omega arith) k
+        go Σ Θ Γ Δ [] i f a b l h k = absurd (omega arith)
+        go Σ Θ Γ Δ (ps ∷ S) i f a b l h k = t Σ Θ Γ Δ ps S i f a b.0 b.1 (omega arith) h k
 
     pub bare-wide : gains ≡ true → env.width ≡ 32 → BareAre g env gains left p (Err (fault-at Wide p))
     unfolding after need shown
-    bare-wide e w = first-bare (Err (fault-at Wide p)) (λ Σ Θ Γ ps S i f a h c cs l k.
-        let n : 32 < length (Γ ++ gained gains) = rw e (omega (arith, length-append Γ (ext ∷ []), holds-length env.types env.full env.width env.narrow Γ h)) in
-        rw (c, lt-leb (length (Γ ++ gained gains)) widest n))
+    bare-wide e w = first-bare (Err (fault-at Wide p)) (λ Σ Θ Γ Δ ps S i f a c cs l h k.
+        let n : 32 < length (Δ ++ gained gains) = rw e (omega (arith, length-append Δ (ext ∷ []), holds-length env.types env.full env.width env.narrow Δ h)) in
+        rw (c, lt-leb (length (Δ ++ gained gains)) widest n))
 
     pub bare-deep : (gains ≡ true → env.width < 32) → g.depth ≡ 48 → BareAre g env gains left p (Err (fault-at Deep p))
     unfolding after need shown
-    bare-deep w d = first-bare (Err (fault-at Deep p)) (λ Σ Θ Γ ps S i f a h c cs l k.
-        rw (c, le-leb (length (Γ ++ gained gains)) widest (gained-fits env gains w Γ h), le-ltb g.depth deepest (omega arith)))
+    bare-deep w d = first-bare (Err (fault-at Deep p)) (λ Σ Θ Γ Δ ps S i f a c cs l h k.
+        rw (c, le-leb (length (Δ ++ gained gains)) widest (gained-fits env gains w Δ h), le-ltb g.depth deepest (omega arith)))
 
     -- the environment of a clause
     module _ (low : g.depth < 48) {inner : Env} (t : (Γ : Environment) → Held env Γ → Held inner (Γ ++ gained gains)) where
       pub bare-bad : {e : Fault} → RegionIs g inner (g.depth + 1) p (Err e) → BareAre g env gains left p (Err e)
       unfolding after need shown
-      bare-bad {e} y = first-bare (Err e) (λ Σ Θ Γ ps S i f a h c cs l k.
+      bare-bad {e} y = first-bare (Err e) (λ Σ Θ Γ Δ ps S i f a c cs l h k.
           rw (
             c,
-            le-leb (length (Γ ++ gained gains)) widest (held-narrow inner (Γ ++ gained gains) (t Γ h)),
+            le-leb (length (Δ ++ gained gains)) widest (held-narrow inner (Δ ++ gained gains) (t Δ h)),
             lt-ltb g.depth deepest low,
-            shown-bad g.bytes.now _ (Err e) e (deeper-reads y Σ Θ (Γ ++ gained gains) f a (t Γ h) k) refl,
+            shown-bad g.bytes.now _ (Err e) e (deeper-reads y Σ Θ (Δ ++ gained gains) f a (t Δ h) k) refl,
           ))
 
       pub bare-on : {on left' : ℕ} → RegionIs g inner (g.depth + 1) p (Ok on) → p ≤ on → left' ≡ left - 1 → (r : Walk) → BareAre g env gains left' on r → BareAre g env gains left p r
       unfolding after need
-      bare-on {on} {left'} y w z r u = first-bare r (λ Σ Θ Γ ps S i f a h c cs l k.
-          with' (shown-on g.bytes.now _ (Ok on) on (deeper-reads y Σ Θ (Γ ++ gained gains) f a (t Γ h) k) refl) λ m.
+      bare-on {on} {left'} y w z r u = first-bare r (λ Σ Θ Γ Δ ps S i f a c cs l h k.
+          with' (shown-on g.bytes.now _ (Ok on) on (deeper-reads y Σ Θ (Δ ++ gained gains) f a (t Δ h) k) refl) λ m.
           rw (
             c,
-            le-leb (length (Γ ++ gained gains)) widest (held-narrow inner (Γ ++ gained gains) (t Γ h)),
+            le-leb (length (Δ ++ gained gains)) widest (held-narrow inner (Δ ++ gained gains) (t Δ h)),
             lt-ltb g.depth deepest low,
             m.1,
             forget-after _ (λ ds. clause i m.0 ds),
           )
-          (u.is Σ Θ Γ S (suc i) f a h cs (l ∙ sym z) (omega arith)))
+          (u.is Σ Θ Γ Δ S (suc i) f a cs (l ∙ sym z) h (omega arith)))

@@ -1,6 +1,6 @@
 -- What the walks over statements, clauses and regions answer: the reader's answer, at every bound that is at least the bytes left.
 use Rattle.std.specs.Prelude.{ℕ, ◌-◌, ◌≤◌, ◌≡◌, length, drop, Bool}
-use mathlib.Core.List.{List, [], map, flat_map}
+use mathlib.Core.List.{List, [], ◌++◌, map, flat_map}
 use Rattle.definitions.specs.Terms.{Environment, Signature}
 use Rattle.definitions.specs.Layout.{named, bare, type_bytes}
 use Rattle.definitions.specs.Reader.{in_region}
@@ -35,8 +35,8 @@ pub record ClausesAre (g : Region) (before : Env) (behind : List (List ℕ)) (si
       → Held before Γ → behind ≡ map type_bytes Γ' → Laid g.image.now sig (signature_bytes S) → length g.bytes.now - at ≤ f
       → forget (clauses Σ Θ (statement Σ Θ f) named g.depth Γ Γ' 0 S at (drop at g.bytes.now)) ≡ shown g.bytes.now r
 
--- bare clauses, `many` of them, that all start with one environment and gain the same
+-- bare clauses, `many` of them, that all start with one environment, and with an integer more where it is gained
 pub record BareAre (g : Region) (env : Env) (gains : Bool) (many at : ℕ) (r : Walk) : Type 0 where
-  pub is : (Σ : List Signature) (Θ : List Environment) (Γ : Environment) (S : Signature) (i f : ℕ) → Heads g Σ Θ
-      → Held env Γ → All (λ ps. ps ≡ gained gains) S → length S ≡ many → length g.bytes.now - at ≤ f
+  pub is : (Σ : List Signature) (Θ : List Environment) (Γ Δ : Environment) (S : Signature) (i f : ℕ) → Heads g Σ Θ
+      → All (λ ps. Γ ++ ps ++ [] ≡ Δ ++ gained gains) S → length S ≡ many → Held env Δ → length g.bytes.now - at ≤ f
       → forget (clauses Σ Θ (statement Σ Θ f) bare g.depth Γ [] i S at (drop at g.bytes.now)) ≡ shown g.bytes.now r
