@@ -106,9 +106,9 @@ module _ (s : List ℕ) where
       leb-true (length s) largest_image (and-true (leb 3 (length s)) (leb (length s) largest_image) t).1
 
   -- from the reading of the image to its first fault
-  pub check-on : (e : ℕ) → forget (read_image s) ≡ shown s (Ok e) → fault 0 e ≡ first_fault s
+  pub check-on : (e : ℕ) → forget (read_image s) ≡ shown s (Ok e) → (n : ℕ) → n ≡ 0 → fault n e ≡ first_fault s
   unfolding first_fault
-  check-on e h = let (_, w) = shown-on s (read_image s) (Ok e) e h refl in rw w
+  check-on e h n z = let (_, w) = shown-on s (read_image s) (Ok e) e h refl in rw (w, z)
 
   pub check-bad : (f : Fault) → forget (read_image s) ≡ shown s (Err f) → (n : ℕ) → n ≡ number f.refusal → fault n f.offset ≡ first_fault s
   unfolding first_fault

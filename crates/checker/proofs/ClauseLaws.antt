@@ -62,16 +62,17 @@ pub record ListsFrom (image : List ℕ) (list left : ℕ) : Type 0 where
   pub laid : Laid image list (flat_map parameters_bytes lists)
   pub many : length lists ≡ left
 
-pub lists-start : {image : List ℕ} {sig : ℕ} → SignatureAt image sig → ListsFrom image (sig + 1) (get_or image sig 0)
-lists-start {image} {sig} p =
+-- `many`, and below the lists `entries` and `last`, are what the code has, shown equal: an edit of them is refused for that equation
+pub lists-start : {image : List ℕ} {sig many : ℕ} → many ≡ get_or image sig 0 → SignatureAt image sig → ListsFrom image (sig + 1) many
+lists-start {image} {sig} e p =
     let (n, behind) = laid-counted parameters_bytes image sig p.signature p.laid in
-    record { lists = p.signature; laid = behind; many = sym n }
+    record { lists = p.signature; laid = behind; many = sym (e ∙ n) }
 
-pub lists-next : {image : List ℕ} {list left : ℕ} → 0 < left → {fields : List (List ℕ)} → FieldsAt image list fields
-    → ListsFrom image list left → ListsFrom image (list + 1 + 2 * length fields) (left - 1)
-lists-next {image} {list} {left} some {fields} t q = go q.lists q.laid q.many
+pub lists-next : {image : List ℕ} {list left left' : ℕ} → 0 < left → left' ≡ left - 1 → {fields : List (List ℕ)} → FieldsAt image list fields
+    → ListsFrom image list left → ListsFrom image (list + 1 + 2 * length fields) left'
+lists-next {image} {list} {left} {left'} some z {fields} t q = go q.lists q.laid q.many
   where
-    go : (S : Signature) → Laid image list (flat_map parameters_bytes S) → length S ≡ left → ListsFrom image (list + 1 + 2 * length fields) (left - 1)
+    go : (S : Signature) → Laid image list (flat_map parameters_bytes S) → length S ≡ left → ListsFrom image (list + 1 + 2 * length fields) left'
     go [] l n = absurd (omega arith)
     go (ps ∷ S) l n = record { lists = S; laid = behind-list image list fields t ps S l; many = omega arith }
 
@@ -102,9 +103,10 @@ pub record Starts (image : List ℕ) (before : Env) (behind : List (List ℕ)) (
   pub starts : (Γ Γ' ps : Environment) → Held before Γ → behind ≡ map type_bytes Γ' → Laid image list (parameters_bytes ps) → Held inner (Γ ++ ps ++ Γ')
 
 module _ {image : List ℕ} {behind fields : List (List ℕ)} {list : ℕ} (t : FieldsAt image list fields) where
-  pub starts-whole : {before inner : Env} → ((Γ ps Γ' : Environment) → Held before Γ → fields ≡ map type_bytes ps → behind ≡ map type_bytes Γ' → Held inner (Γ ++ ps ++ Γ'))
+  pub starts-whole : {entries last : List (List ℕ)} → entries ≡ fields → last ≡ behind
+      → {before inner : Env} → ((Γ ps Γ' : Environment) → Held before Γ → entries ≡ map type_bytes ps → last ≡ map type_bytes Γ' → Held inner (Γ ++ ps ++ Γ'))
       → Starts image before behind list inner
-  starts-whole w = record { starts = λ Γ Γ' ps h g l. w Γ ps Γ' h (t ps l) g }
+  starts-whole e f w = record { starts = λ Γ Γ' ps h g l. w Γ ps Γ' h (e ∙ t ps l) (f ∙ g) }
 
   -- it is as wide as these are together
   starts-length : (before : Env) (Γ Γ' ps : Environment) (S : Signature) → Held before Γ → behind ≡ map type_bytes Γ' → Laid image list (flat_map parameters_bytes (ps ∷ S))
@@ -200,10 +202,10 @@ module _ {g : Region} {before : Env} {behind : List (List ℕ)} where
               )
               (rw add-one at (u.is Σ Θ Γ Γ' S f a b c (behind-list g.image.now list fields v ps S d) (l ∙ sym z) (omega arith))))
 
-  -- from the signature'g.bytes.now count on
-  pub named_start : {sig at : ℕ} {r : Walk} → ClausesFrom g before behind (get_or g.image.now sig 0) 0 (sig + 1) at r → ClausesAre g before behind sig at r
+  -- from the signature's count on
+  pub named_start : {sig many at : ℕ} {r : Walk} → many ≡ get_or g.image.now sig 0 → ClausesFrom g before behind many 0 (sig + 1) at r → ClausesAre g before behind sig at r
   unfolding counted
-  named_start {sig} {at} {r} t = record {
+  named_start {sig} {many} {at} {r} e t = record {
     is = λ Σ Θ Γ Γ' S f a b c l k.
-        t.is Σ Θ Γ Γ' S f a b c (laid-append g.image.now sig (length S ∷ []) (flat_map parameters_bytes S) l) (sym (laid-byte g.image.now sig (length S) (flat_map parameters_bytes S) l)) k;
+        t.is Σ Θ Γ Γ' S f a b c (laid-append g.image.now sig (length S ∷ []) (flat_map parameters_bytes S) l) (sym (e ∙ laid-byte g.image.now sig (length S) (flat_map parameters_bytes S) l)) k;
   }

@@ -1,5 +1,7 @@
 -- invoke: the last entry and the others, the symbol of its signature, and its list of types, compared with the others. Assumes nothing.
-use Rattle.std.proofs.Common.{rules, sym}
+use Rattle.std.proofs.Common.{rules, ◌≡◌, sym}
+use Rattle.std.proofs.Math.Seq.{take-length}
+use Rattle.checker.proofs.SameTypes.{flattened}
 use Rattle.checker.proofs.FormLaws as law
 use Rattle.checker.proofs.forms.invoke.Goals as goal
 
@@ -36,16 +38,21 @@ parameters-wanted-requires c =
     let sig = law.matched _ _ _ _ c.in_ok-sig.ensures.value c.get.ensures.lookup.3 in
     law.symbol-inside c.args.region.now (sig.1 0) sig.0 c.in_ok-m.ensures c.symbol_at.ensures.laid
 
+-- that all the others are compared is found by `search`, however the code names them: so the edit `invoke_ignores_spare_entries` is refused for what it compares
 pub returns-then-ne-clause-reads : goal.returns-then-ne-clause-reads
 returns-then-ne-clause-reads c =
+    let whole = take-length c.in_ok-last.others.now in
+    let w : c.as_flattened.result.now ≡ flattened c.in_ok-last.others.now = search rules in
     let split = law.matched _ _ _ _ c.in_ok-last.ensures.value c.split_last.ensures.cases in
     let sig = law.matched _ _ _ _ c.in_ok-sig.ensures.value c.get.ensures.lookup.3 in
     let rest = law.invoke-other _ c.entries.ensures _ _ split c.if-last-ne-CNS.false (sig.1 0) sig.0 c.in_ok-m.ensures c.symbol_at.ensures.laid in
-    rw c.at-untyped.ensures (rest c.as_flattened.ensures.value c.parameters-wanted.ensures.types (sym c.if-ne.ensures))
+    rw c.at-untyped.ensures (rest w c.parameters-wanted.ensures.types (sym c.if-ne.ensures))
 
 pub returns-clause-reads : goal.returns-clause-reads
 returns-clause-reads c =
+    let whole = take-length c.in_ok-last.others.now in
+    let w : c.as_flattened.result.now ≡ flattened c.in_ok-last.others.now = search rules in
     let split = law.matched _ _ _ _ c.in_ok-last.ensures.value c.split_last.ensures.cases in
     let sig = law.matched _ _ _ _ c.in_ok-sig.ensures.value c.get.ensures.lookup.3 in
     let rest = law.invoke-same _ c.entries.ensures _ _ split c.if-last-ne-CNS.false (sig.1 0) sig.0 c.in_ok-m.ensures c.symbol_at.ensures.laid in
-    rest c.as_flattened.ensures.value c.parameters-wanted.ensures.types (sym c.if-ne.ensures)
+    rest w c.parameters-wanted.ensures.types (sym c.if-ne.ensures)

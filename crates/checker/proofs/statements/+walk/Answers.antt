@@ -1,13 +1,13 @@
 -- statement, extern_, new_, switch_, bare_clauses, clauses, in_region: what each part answers, by its laws.
-use mathlib.Core.Path.{sym, ◌∙◌}
+use mathlib.Core.Path.{◌∙◌}
 use mathlib.Core.Logic.{∥∥₁_map}
-use native.Mathlib.Nat.{sub-zero}
 use native.Mathlib.Omega.{arith}
 use lib.Seq.{length-take-le}
+use Rattle.std.proofs.Common.{rules}
+use Rattle.std.proofs.Math.Seq.{take-length}
 use Rattle.std.specs.Prelude.{ℕ, ◌+◌, ◌-◌, ◌*◌, ◌≤◌, ◌<◌, ◌≡◌, List, length, get_or, true}
-use Rattle.definitions.specs.Terms.{ext}
 use Rattle.checker.specs.declared.codes.Form.TheVariants.{Jump, Substitute, Extern, Let, New, Switch, Invoke}
-use Rattle.checker.proofs.Exits.{passed, found, lacking}
+use Rattle.checker.proofs.Exits.{passed}
 use Rattle.checker.proofs.RegionLaws as regions
 use Rattle.checker.proofs.ClauseLaws as clauses
 use Rattle.checker.proofs.ClauseForms as forms
@@ -26,8 +26,8 @@ clauses-loop-symbol-init t c =
     record {
       later = omega arith;
       inside = c.requires.inside;
-      lists = rw sub-zero (∥∥₁_map c.requires.signature clauses.lists-start);
-      are = λ r t. clauses.named_start (rw sub-zero at t);
+      lists = ∥∥₁_map c.requires.signature (clauses.lists-start (omega arith));
+      are = λ r t. clauses.named_start (omega arith) t;
     }
 
 pub clauses-returns-in_err-length_field-clause-reads : goal.clauses-returns-in_err-length_field-clause-reads
@@ -148,9 +148,11 @@ clauses-returns-then-region-eq48-clause-reads t c =
 
 pub clauses-returns-in_err-p-clause-reads : goal.clauses-returns-in_err-p-clause-reads
 clauses-returns-in_err-p-clause-reads t c =
+    let front = take-length c.as_chunks.result.0.now in
+    let back = take-length c.args.behind.now in
     rw (passed _ c.from_residual-in_err-p.result c.from_residual-in_err-p.ensures.1)
     (c.loop-symbol.invariant.are _ (clauses.named-bad (omega arith) c.in_ok-length_field.length_field c.in_ok-length_field.ensures.reads
-    (clauses.starts-whole (clauses.fields-at c.parameters.ensures.types c.as_chunks.ensures.front) c.followed_by-inner.ensures)
+    (clauses.starts-whole (clauses.fields-at c.parameters.ensures.types c.as_chunks.ensures.front) (search rules) (search rules) c.followed_by-inner.ensures)
     (omega (arith, c.args.region.now.shallow)) (omega (arith, c.in_ok-length_field.ensures.next.0)) c.in_err-p.ensures.reads))
 
 pub clauses-overflow_add-list-in-loop-symbol : goal.clauses-overflow_add-list-in-loop-symbol
@@ -165,18 +167,19 @@ clauses-overflow_add-list-in-loop-symbol-2 t c = omega (
 
 pub clauses-loop-symbol-preserved : goal.clauses-loop-symbol-preserved
 clauses-loop-symbol-preserved t c =
+    let front = take-length c.as_chunks.result.0.now in
+    let back = take-length c.args.behind.now in
     let w = c.in_ok-p.ensures.within in
     let later : c.loop-symbol.p ≤ c.in_ok-length_field.length_field = omega (arith, c.in_ok-length_field.ensures.next.0) in
-    let less : get_or c.args.region.now.image.now c.args.sig 0 - (c.loop-symbol.symbol + 1) ≡ get_or c.args.region.now.image.now c.args.sig 0 - c.loop-symbol.symbol - 1 = omega arith in
     let fields = clauses.fields-at c.parameters.ensures.types c.as_chunks.ensures.front in
     record {
       later = omega (arith, w.0, later);
       inside = w.1;
-      lists = rw less (∥∥₁_map c.loop-symbol.invariant.lists (clauses.lists-next (omega arith) fields));
+      lists = ∥∥₁_map c.loop-symbol.invariant.lists (clauses.lists-next (omega arith) (omega arith) fields);
       are = λ r t.
           c.loop-symbol.invariant.are r (clauses.named-on (omega arith) c.in_ok-length_field.length_field c.in_ok-length_field.ensures.reads
-          (clauses.starts-whole fields c.followed_by-inner.ensures)
-          (omega (arith, c.args.region.now.shallow)) later c.in_ok-p.ensures.reads (omega (arith, w.0, later)) less fields r t);
+          (clauses.starts-whole fields (search rules) (search rules) c.followed_by-inner.ensures)
+          (omega (arith, c.args.region.now.shallow)) later c.in_ok-p.ensures.reads (omega (arith, w.0, later)) (omega arith) fields r t);
     }
 
 pub extern_-returns-clause-reads : goal.extern_-returns-clause-reads
