@@ -177,7 +177,8 @@ module _ {g : Region} {env : Env} {at sig captures : ℕ} (h : NewIs g env at (O
     new-wide full = stops {e = fault-at Wide at} (λ Σ Θ Δ f a k w.
         with' (after-clauses (Ok on) y Σ Θ Δ f a k w) λ u.
         with' (shown-on g.bytes.now _ (Ok on) on u.1 refl) λ m.
-        let kept : length (front Δ captures) ≡ 32 = rw full at (holds-length env.types env.full (env.width - captures) (omega (arith, env.narrow)) (front Δ captures) (kept-held env captures (new-facts h).1 Δ k)) in
+        let held = kept-held env captures (new-facts h).1 Δ k in
+        let kept : length (front Δ captures) ≡ 32 = rw full at (holds-length env.types env.full (env.width - captures) (omega (arith, env.narrow)) (front Δ captures) held) in
         let wide : widest < length (rest g env at Δ captures) = omega (arith, length-append (front Δ captures) (cns (get_or g.bytes.now (at + 1) 0) ∷ []), kept) in
         u.2 ∙ rw (m.1, lt-leb (length (rest g env at Δ captures)) widest wide))
 
@@ -191,5 +192,8 @@ module _ {g : Region} {env : Env} {at sig captures : ℕ} (h : NewIs g env at (O
         let held : Held next (rest g env at Δ captures) = renew (front Δ captures) (cns (get_or g.bytes.now (at + 1) 0)) (kept-held env captures (new-facts h).1 Δ k) refl in (
           rest g env at Δ captures,
           held,
-          u.2 ∙ rw (m.1, le-leb (length (rest g env at Δ captures)) widest (held-narrow next (rest g env at Δ captures) held)) (forget-after _ (λ v. new (get_or g.bytes.now (at + 1) 0) captures m.0 v)),
+          u.2 ∙ rw (
+            m.1,
+            le-leb (length (rest g env at Δ captures)) widest (held-narrow next (rest g env at Δ captures) held),
+          ) (forget-after _ (λ v. new (get_or g.bytes.now (at + 1) 0) captures m.0 v)),
         ))

@@ -62,7 +62,7 @@ pub record ListsFrom (image : List ℕ) (list left : ℕ) : Type 0 where
   pub laid : Laid image list (flat_map parameters_bytes lists)
   pub many : length lists ≡ left
 
--- `many`, and below the lists `entries` and `last`, are what the code has, shown equal: an edit of them is refused for that equation
+-- `many` here and in `named_start`, and `entries` and `last` in `starts-whole`, are what the code has, with an equation that says what it is
 pub lists-start : {image : List ℕ} {sig many : ℕ} → many ≡ get_or image sig 0 → SignatureAt image sig → ListsFrom image (sig + 1) many
 lists-start {image} {sig} e p =
     let (n, behind) = laid-counted parameters_bytes image sig p.signature p.laid in

@@ -19,12 +19,12 @@ pub(crate) fn read_type(s: &[u8], sigs: usize, at: usize) -> Result<usize, Fault
     ensures reads { forget (type sigs at (drop at s.now)) ≡ shown s.now result }
 {
     let kind = byte(s, at)?;
-    if Type::EXT < kind {
-        return Err(Refusal::Unknown.at(at));
-    }
-    if kind != Type::EXT {
+    if kind < Type::EXT {
         name(s, sigs, at + 1)?;
         return Ok(at + 2);
+    }
+    if kind != Type::EXT {
+        return Err(Refusal::Unknown.at(at));
     }
     let number = byte(s, at + 1)?;
     if number != 0 {

@@ -26,7 +26,8 @@ returns-then-not-ends_with c =
 pub returns-then-kept-eq32 : goal.returns-then-kept-eq32
 returns-then-kept-eq32 c =
     let w : c.as_flattened.result.now ≡ flattened (take c.args.env.now.width c.args.env.now.types) = search (rules, take_all) in
-    rw c.at-then-kept-eq32.ensures (law.let-wide c.in_ok-t.ensures c.in_ok-m.ensures c.symbol_at.ensures.laid w c.parameters-fields.ensures.types (sym c.if-not-ends_with.ensures.value) c.if-kept-eq32.true)
+    rw c.at-then-kept-eq32.ensures
+    (law.let-wide c.in_ok-t.ensures c.in_ok-m.ensures c.symbol_at.ensures.laid w c.parameters-fields.ensures.types (sym c.if-not-ends_with.ensures.value) c.if-kept-eq32.true)
 
 pub returns : goal.returns
 returns c =

@@ -54,7 +54,8 @@ in_region-returns-then-bytes-start-clause-reads t c = rw c.at-then-bytes-start.e
 
 pub in_region-returns-in_err-stopped-clause-reads : goal.in_region-returns-in_err-stopped-clause-reads
 in_region-returns-in_err-stopped-clause-reads t c =
-    rw (passed _ c.from_residual.result c.from_residual.ensures.1) (regions.region-bad _ _ _ _ (omega arith) _ c.from_be_bytes-size.ensures (omega arith) c.up_to.ensures c.in_err-stopped.ensures.reads)
+    rw (passed _ c.from_residual.result c.from_residual.ensures.1)
+    (regions.region-bad _ _ _ _ (omega arith) _ c.from_be_bytes-size.ensures (omega arith) c.up_to.ensures c.in_err-stopped.ensures.reads)
 
 pub in_region-returns-then-stopped-end-clause-reads : goal.in_region-returns-then-stopped-end-clause-reads
 in_region-returns-then-stopped-end-clause-reads t c =

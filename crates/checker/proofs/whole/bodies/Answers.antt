@@ -15,7 +15,8 @@ returns-clause-reads c = law.bodies-whole _ _ _ (c.loop-list.invariant.2 _ (law.
 pub returns-in_err-p-clause-reads : goal.returns-in_err-p-clause-reads
 returns-in_err-p-clause-reads c =
     law.bodies-whole _ _ _ (c.loop-list.invariant.2 _ (law.bodies-bad _ _ _ c.loop-list-test.true _
-    (law.label-held c.empty.result c.followed_by-env.result c.empty.ensures (fields-at c.parameters.ensures.types c.as_chunks.ensures.front) refl c.followed_by-env.ensures) _ c.in_err-p.ensures.reads _ (search rules)))
+    (law.label-held c.empty.result c.followed_by-env.result c.empty.ensures (fields-at c.parameters.ensures.types c.as_chunks.ensures.front) refl c.followed_by-env.ensures)
+    _ c.in_err-p.ensures.reads _ (search rules)))
 
 pub loop-list-preserved : goal.loop-list-preserved
 loop-list-preserved c =
@@ -23,5 +24,6 @@ loop-list-preserved c =
       omega arith,
       w.1,
       λ r t. c.loop-list.invariant.2 r (law.bodies-on _ _ _ c.loop-list-test.true _
-          (law.label-held c.empty.result c.followed_by-env.result c.empty.ensures (fields-at c.parameters.ensures.types c.as_chunks.ensures.front) refl c.followed_by-env.ensures) _ c.in_ok-p.ensures.reads w.0 r t),
+          (law.label-held c.empty.result c.followed_by-env.result c.empty.ensures (fields-at c.parameters.ensures.types c.as_chunks.ensures.front) refl c.followed_by-env.ensures)
+          _ c.in_ok-p.ensures.reads w.0 r t),
     )
